@@ -7,3 +7,5 @@ pub mod OneCharLemmas
 pub mod SkipLemmas
 pub mod RangeBitLemmas
 pub mod FoldLemmas
+pub mod PartnerLemmas
+pub mod WideBitLemmas

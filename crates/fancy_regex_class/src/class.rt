@@ -7,10 +7,11 @@ ghost use Rattle.std.proofs.Props.{props};
 ghost use Rattle.regex_class.specs.Ranges.{in_ranges};
 ghost use Rattle.fancy_regex_class.specs.Classes.{class_text, is_class};
 ghost use Rattle.fancy_regex_class.specs.Bitmaps.{has_member};
+ghost use Rattle.fancy_regex_class.specs.RangeBits.{AreWideBits};
 
 use crate::bitmap::Bitmap;
 use crate::matcher::{Refusal, members};
-use crate::range_bits::END;
+use crate::range_bits::{END, words_of};
 use regex_class::Class;
 use std::alloc::{AllocError, Global};
 use thiserror::Error;
@@ -139,6 +140,13 @@ impl CharClassMatcher {
         ensures { (c : ℕ) → c < 128 → slice_index_or result.now c false ≡ has self.now c }
     {
         &self.ascii
+    }
+
+    /// The members that are not ASCII and lie below U+10000, as words of bits. The error is want of memory.
+    pub fn wide_bits(&self, alloc: Global) -> Result<Vec<u64>, AllocError>
+        ensures { IfOk result (λ words. AreWideBits words.items (has self.now)) }
+    {
+        words_of(alloc, &self.class.ranges)
     }
 }
 

@@ -97,6 +97,7 @@ module _ (reads : ℕ → Bool) (count : ℕ) (c : Text × Bool) (i : Inside) wh
         in_iterations false m = m
     class_emitted k (tree.look_around t how) e ok m = absurd (true≢false (sym e))
     class_emitted k (tree.atomic_group t) e ok m = absurd (true≢false (sym e))
+    class_emitted k (tree.conditional t a b) e ok m = absurd (true≢false (sym e))
     class_emitted k t e ok m = absurd (none_there c m)
 
     row_emitted : (k : ℕ) (ts : Trees) → all_easy reads k ts ≡ true → (some_of_row Wrong i ts ≡ true → ⊥) → Contains (row_classes ts) c → some_of_row Test i ts ≡ true

@@ -29,7 +29,7 @@ const UNICODE: u32 = FLAG_UNICODE;
 
 const ONIGURUMA: u32 = FLAG_UNICODE | FLAG_MULTI | FLAG_ONIGURUMA_MODE;
 
-static SEARCHES: [Search; 50] = [
+static SEARCHES: [Search; 73] = [
     // a line break is `\r\n`, or one character
     Search("\\R", UNICODE, "\r\n", Answer::Match(0, 2)),
     Search("\\R\\n", UNICODE, "\r\n", Answer::Nothing),
@@ -84,7 +84,42 @@ static SEARCHES: [Search; 50] = [
     Search("(?!a(*FAIL))a", UNICODE, "a", Answer::Match(0, 1)),
     // a group in a part
     Search("(?=(a))a", UNICODE, "a", Answer::Match(0, 1)),
+    // a conditional: from the first way of its condition the one branch, and where there is none the other
+    Search("(?((?=a))ab|c)", UNICODE, "xab", Answer::Match(1, 3)),
+    Search("(?((?=a))ab|c)", UNICODE, "ac", Answer::Match(1, 2)),
+    Search("(?((?=a))ab|a)", UNICODE, "ac", Answer::Nothing),
+    Search("(?(a|ab)c|d)", UNICODE, "abc", Answer::Nothing),
+    Search("(?(ab|a)c|d)", UNICODE, "abc", Answer::Match(0, 3)),
+    Search("(?(a?)b|c)", UNICODE, "cb", Answer::Match(1, 2)),
+    Search("(?((?(a)b|c))d|e)", UNICODE, "abd", Answer::Match(0, 3)),
+    Search("(?((?(a)b|c))d|e)", UNICODE, "cd", Answer::Match(0, 2)),
+    Search("(?((?(a)b|c))d|e)", UNICODE, "ae", Answer::Match(1, 2)),
+    Search("(?!(?(a)b|c))\\w", UNICODE, "abcad", Answer::Match(1, 2)),
+    Search("(?>(?(a)b*|c))b", UNICODE, "abb", Answer::Nothing),
+    Search("(?(a)b|c){3,}?", UNICODE, "ababcc", Answer::Match(0, 5)),
+    Search("(?:(?(a)b?|c?))*d", UNICODE, "abcad", Answer::Match(0, 5)),
+    Search("(?:(?(a?)b?|c))*d", UNICODE, "abad", Answer::Match(0, 4)),
+    Search(
+        "(?:x(?((?=a))a|))*b",
+        UNICODE,
+        "xaxxab",
+        Answer::Match(0, 6),
+    ),
+    Search("(?(\\d)\\w|[^x])", UNICODE, "x1", Answer::Nothing),
+    // definitions match the empty string, whatever is in them
+    Search("(?(DEFINE)(a))b", UNICODE, "ab", Answer::Match(1, 2)),
+    Search("(?(DEFINE)(a)\\1)b", UNICODE, "aab", Answer::Match(2, 3)),
+    Search("(?:(?(DEFINE)(a)))*b", UNICODE, "ab", Answer::Match(1, 2)),
+    Search(
+        "(?=(?(DEFINE)([bc]))\\d)[1-9]",
+        UNICODE,
+        "0b5",
+        Answer::Match(2, 3),
+    ),
     // what has no states
+    Search("(a)?(?(1)b|c)", UNICODE, "ab", Answer::NoStates),
+    Search("(?(a)b|(c)\\1)", UNICODE, "ab", Answer::NoStates),
+    Search("(?(DEFINE)(a))\\g<1>", UNICODE, "a", Answer::NoStates),
     Search("(a)\\1", UNICODE, "aa", Answer::NoStates),
     Search("(?<=ab)c", UNICODE, "abc", Answer::NoStates),
     Search("a\\Kb", UNICODE, "ab", Answer::NoStates),
@@ -96,8 +131,8 @@ struct Groups(Text, Text, [usize; 6], usize);
 /// No place.
 const UNSET: usize = usize::MAX;
 
-/// Groups in look-aheads and atomic groups, as the backtracking program has them.
-static GROUPS: [Groups; 7] = [
+/// Groups in look-aheads, atomic groups and conditionals, as the backtracking program has them.
+static GROUPS: [Groups; 14] = [
     // of the last iteration
     Groups("(a(?=b|(c)))+", "abac", [0, 1, 0, 1, UNSET, UNSET], 6),
     Groups("(a(?=b|(c))b?)+", "abac", [0, 3, 2, 3, 3, 4], 6),
@@ -106,6 +141,20 @@ static GROUPS: [Groups; 7] = [
     Groups("(?=(a|ab)(?!x))ab", "aba", [0, 2, 0, 1, UNSET, UNSET], 4),
     Groups("(?>(a)|b)+c", "abc", [0, 3, 0, 1, UNSET, UNSET], 4),
     Groups("(?:(?=(.*))a)*b", "aab", [0, 3, 1, 3, UNSET, UNSET], 4),
+    // a condition keeps what its first way writes
+    Groups("(?((a)|b)(?=(c))c|d)", "ac", [0, 2, 0, 1, 1, 2], 6),
+    Groups("(?((a)|b)(?=(c))c|d)", "bc", [0, 2, UNSET, UNSET, 1, 2], 6),
+    Groups("(?((a)|b)c|(d))", "bd", [1, 2, UNSET, UNSET, 1, 2], 6),
+    Groups("(?:(?((?=a))(a)|(b)))+", "aba", [0, 3, 2, 3, 1, 2], 6),
+    Groups("(?:(?((?=a))(a?)|(b?)))*", "aab", [0, 3, 1, 2, 3, 3], 6),
+    // groups of definitions are numbered, and not set
+    Groups("(?(DEFINE)(a))(b)", "ab", [1, 2, UNSET, UNSET, 1, 2], 6),
+    Groups(
+        "(?=(?(DEFINE)(a))b)(\\w)",
+        "ab",
+        [1, 2, UNSET, UNSET, 1, 2],
+        6,
+    ),
     // what must not be is not written
     Groups("(?!(b))a", "a", [0, 1, UNSET, UNSET, UNSET, UNSET], 4),
 ];

@@ -49,7 +49,8 @@ fn ending_of_refused(alloc: Global, case: Case<'_>, error: &Error) -> Ending {
     if *error == Error::Memory {
         return Ending::Memory;
     }
-    if case.setting.is_plain {
+    // Where Unicode is off, a class with a character beyond ASCII is refused.
+    if case.setting.is_plain && case.setting.unicode {
         return Ending::Contradicts(Check::Plain);
     }
     match refused_alike(alloc, case, error) {

@@ -26,12 +26,13 @@ impl Kind {
 }
 
 /// What a hole may become in a plain pattern. `%` is a hole.
-static PLAIN: [&str; 12] = [
+static PLAIN: [&str; 14] = [
     "%%", "%%", "%|%", "(%)", "(?:%)", "(?:%)?", "(%)??", "a%", "b*%", "[ab]+?%", ".*%", "^%$",
+    "\\b%", "\\W*%",
 ];
 
 /// What a hole may become in any pattern.
-static ANY: [&str; 40] = [
+static ANY: [&str; 42] = [
     "%%",
     "%%",
     "%%",
@@ -52,6 +53,7 @@ static ANY: [&str; 40] = [
     "(%)\\1",
     "(%)?(?(1)%|%)",
     "(?(%)%|%)",
+    "(?((?=%))%|%)",
     "(?~%)",
     "(?i:%)",
     "(?i)%",
@@ -62,6 +64,7 @@ static ANY: [&str; 40] = [
     "\\G%",
     "(a%\\g<1>?b)",
     "(?(DEFINE)(?<d>%))\\g<d>",
+    "(?(DEFINE)(%))%",
     "\\b%\\B",
     "\\A%",
     "%\\z",
@@ -81,7 +84,9 @@ static ATOMS: [&str; 16] = [
 ];
 
 /// What a hole becomes at the end of a plain pattern, where each takes a character.
-static PLAIN_ATOMS: [&str; 8] = ["a", "b", "ab", "c", ".", "[ab]", "\\w", "k"];
+static PLAIN_ATOMS: [&str; 12] = [
+    "a", "b", "ab", "c", ".", "[ab]", "\\w", "k", "é", "[^a]", "\\W", "[à-字]",
+];
 
 /// What mutations put into a pattern.
 static SIGNS: [&str; 24] = [

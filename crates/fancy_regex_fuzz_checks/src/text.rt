@@ -3,9 +3,10 @@
 use crate::random::Random;
 use std::alloc::{AllocError, Global};
 
-/// What texts are made of.
-static PIECES: [&str; 16] = [
+/// What texts are made of. Of the characters that are not ASCII some are word characters and others are not, in each length.
+static PIECES: [&str; 20] = [
     "a", "b", "a", "b", "ab", "c", "A", "B", " ", "\n", "\r\n", "1", "é", "\u{212a}", "_", "()",
+    "«", "—", "𝐀", "😀",
 ];
 
 /// What templates are made of.

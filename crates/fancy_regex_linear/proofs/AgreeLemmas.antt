@@ -6,7 +6,7 @@ use Rattle.fancy_regex_linear.specs.Meaning.{is_unbounded}
 use Rattle.fancy_regex_linear.specs.Program.{never_empty}
 use Rattle.fancy_regex_linear.specs.Attempt.{prefer, iterations, times_try, upto_try, star_try, tail_try, attempt}
 use Rattle.fancy_regex_states.specs.declared.atom.Leaf.{Leaf}
-use Rattle.fancy_regex_linear.specs.Re.{Re, nothing, read, test, cat, alt, group, repeat, ask, atomic}
+use Rattle.fancy_regex_linear.specs.Re.{Re, nothing, read, test, cat, alt, group, repeat, ask, atomic, conditional}
 
 pub guard_cong : (b : Bool) (x y : AttemptResult) → (b ≡ true → x ≡ y) → guard b x ≡ guard b y
 guard_cong true x y h = ap (guard true) (h refl)
@@ -118,7 +118,7 @@ module _ (low stop : ℕ) where
     passes = λ part k k2 h. passed_within part.answer k h;
   }
 
-  end_within : (o : Option Trace) (t : Trace) → IsWithin low stop o → o ≡ Some t → (low ≤ t.end) × (t.end ≤ stop)
+  pub end_within : (o : Option Trace) (t : Trace) → IsWithin low stop o → o ≡ Some t → (low ≤ t.end) × (t.end ≤ stop)
   end_within o t h e = rw e at h
 
 module _ (view : View) (stop : ℕ) where
@@ -204,6 +204,11 @@ module _ (view : View) (stop : ℕ) where
   looks (atomic a) Same kept k k2 i p h =
       let within = looks a (BothWithin i stop) (within_kept i stop view.longest) accept accept i p (λ j c d. (c, d)) in
       kept.passes _ _ _ (λ t e. let ends = end_within i stop (attempt view stop a accept i).answer t within e in h t.end ends.0 ends.1)
+  looks (conditional c a b) Same kept k k2 i p h =
+      let within = looks c (BothWithin i stop) (within_kept i stop view.longest) accept accept i p (λ j x y. (x, y)) in
+      kept.chooses _ _ _ _
+      (kept.passes _ _ _ (λ t e. let ends = end_within i stop (attempt view stop c accept i).answer t within e in looks a Same kept k k2 t.end ends.1 (λ j x y. h j (omega (arith, ends.0)) y)))
+      (kept.asks true _ _ _ (looks b Same kept k k2 i p h))
 
   moves : (t : Re) → never_empty t ≡ true → (Same : Relation) → IsKept view.longest Same → MovesBy Same (attempt view stop t)
   unfolding attempt
@@ -229,6 +234,20 @@ module _ (view : View) (stop : ℕ) where
   moves (atomic a) e Same kept k k2 i p h =
       let within = moves a e (BothWithin (i + 1) stop) (within_kept (i + 1) stop view.longest) accept accept i p (λ j c d. (omega arith, d)) in
       kept.passes _ _ _ (λ t same. let ends = end_within (i + 1) stop (attempt view stop a accept i).answer t within same in h t.end (omega (arith, ends.0)) ends.1)
+  moves (conditional c a b) e Same kept k k2 i p h =
+      let both = and_parts _ _ e in
+      let first_branch : Same (passed (attempt view stop c accept i) (attempt view stop a k)) (passed (attempt view stop c accept i) (attempt view stop a k2)) =
+      elim (or_parts (never_empty c) (never_empty a) both.0) [
+        | inl first ↦ (
+            let within = moves c first (BothWithin (i + 1) stop) (within_kept (i + 1) stop view.longest) accept accept i p (λ j x y. (omega arith, y)) in
+            kept.passes _ _ _ (λ t same. let ends = end_within (i + 1) stop (attempt view stop c accept i).answer t within same in
+            looks a Same kept k k2 t.end ends.1 (λ j x y. h j (omega (arith, ends.0)) y)))
+        | inr second ↦ (
+            let within = looks c (BothWithin i stop) (within_kept i stop view.longest) accept accept i p (λ j x y. (x, y)) in
+            kept.passes _ _ _ (λ t same. let ends = end_within i stop (attempt view stop c accept i).answer t within same in
+            moves a second Same kept k k2 t.end ends.1 (λ j x y. h j (omega (arith, ends.0)) y)))
+      ] in
+      kept.chooses _ _ _ _ first_branch (kept.asks true _ _ _ (moves b both.1 Same kept k k2 i p h))
 
   -- a part ends in the rest of the range
   pub attempt_ends : (t : Re) (i : ℕ) → i ≤ stop → IsWithin i stop (attempt view stop t accept i).answer

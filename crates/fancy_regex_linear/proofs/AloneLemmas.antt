@@ -8,7 +8,6 @@ use Rattle.fancy_regex_class.specs.Looks.{looked_text, look_count, SameCounter}
 use Rattle.fancy_regex_class.specs.declared.counted.Counted.{Counted}
 use Rattle.fancy_regex_states.specs.Attempts.{Continuation}
 use Rattle.fancy_regex_table.specs.Ends.{end_of}
-use Rattle.fancy_regex_table.specs.Tables.{AreBoundaries}
 use Rattle.fancy_regex_linear.specs.Meaning.{Spot}
 use Rattle.fancy_regex_linear.specs.Attempt.{trace_end}
 use Rattle.fancy_regex_linear.specs.Search.{AllFail}
@@ -75,7 +74,7 @@ none_then context a b c from at way here = record {
 -- the table does not tell of a start at which the text was looked at
 pub unknown_says : (context : SearchContext) (a c : Counted) (first from read : ℕ) (place : ℕ × Option ℕ) (alone : Alone) → IsUtf8 (looked_text a)
     → context.stop ≤ length (looked_text a) → IsLookedAt context a c first place → (place.0 ≤ from) × (from ≤ read) × (read ≤ context.stop)
-    → AllFailBetween context (looked_text a) place.0 from → AreBoundaries (looked_text a) place.0 read → IsUnknown context place from read alone
+    → AllFailBetween context (looked_text a) place.0 from → IsCharBoundary (looked_text a) from × IsCharBoundary (looked_text a) read → IsUnknown context place from read alone
     → AloneSays context a c first alone
 unknown_says context a c first from read place (Found start end) utf8 inside here range fails boundaries is = absurd is
 unknown_says context a c first from read place NoMatch utf8 inside here range fails boundaries is = absurd is
@@ -95,7 +94,7 @@ unknown_says context a c first from read place (Unknown start) utf8 inside here 
       split = rw at_is split;
       fails = rw (at_is, is.2) fails;
       range = (omega (arith, at_is, is.2, range.0), omega (arith, is.2, is.3, range.1), omega (arith, is.3, range.2));
-      boundaries = rw (at_is, is.3) boundaries;
+      boundaries = rw (is.2, is.3) boundaries;
     } in
     (unknown, omega (arith, at_is, here.range.0), rw at_is here.fails, rw at_is here.looked)
 

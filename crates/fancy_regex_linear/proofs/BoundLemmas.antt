@@ -4,7 +4,7 @@ use Rattle.std.proofs.lemmas.Bool.{cases_lt, lt-leb, and_parts}
 use Rattle.fancy_regex_states.specs.Attempts.{View, reads}
 use Rattle.fancy_regex_linear.specs.Meaning.{Spot, each, in_order, after_iteration, loop_ways, times_ways, upto_ways, tail_ways, is_unbounded, asked_ways, first_way, ways, ending_by}
 use Rattle.fancy_regex_linear.specs.Program.{MayAskIn}
-use Rattle.fancy_regex_linear.specs.Re.{Re, nothing, read, test, cat, alt, group, repeat, ask, atomic}
+use Rattle.fancy_regex_linear.specs.Re.{Re, nothing, read, test, cat, alt, group, repeat, ask, atomic, conditional}
 use Rattle.fancy_regex_states.specs.declared.atom.Leaf.{Leaf}
 
 abbrev pub AllOf : (Spot → Type 0) → List Spot → Type 0
@@ -127,6 +127,10 @@ module _ (view : View) (stop : ℕ) where
       (tail_ends (is_unbounded hi) stop g (ways view stop a) (ways_end a) (hi - lo)) lo s p
   ways_end (ask negated a) s p = ask_ends negated s (ways view stop a s) p
   ways_end (atomic a) s p = first_ends (Between s.at stop) (ways view stop a s) (ways_end a s p)
+  ways_end (conditional c a b) s p =
+      all_append (Between s.at stop) _ _
+      (seq_ends stop (λ u. first_way (ways view stop c u)) (ways view stop a) (λ u q. first_ends (Between u.at stop) (ways view stop c u) (ways_end c u q)) (ways_end a) s p)
+      (seq_ends stop (λ u. asked_ways true u (ways view stop c u)) (ways view stop b) (λ u q. ask_ends true u (ways view stop c u) q) (ways_end b) s p)
 
 -- more room than there is text adds no ways
 iteration_same : (stop : ℕ) (g : Bool) (list again more : Spot → List Spot) (s : Spot) → s.at ≤ stop → Ends stop list
@@ -330,3 +334,4 @@ module _ (len stop : ℕ) (fits : stop ≤ len) where
         (tail_keeps (is_unbounded hi) g (ways view len a) (ways view stop a) (ways_end view len a) (ways_ending_by a may) (hi - lo)) lo s p
     ways_ending_by (ask negated a) may s p = absurd (true≢false (sym may.0))
     ways_ending_by (atomic a) may s p = absurd (true≢false (sym may.0))
+    ways_ending_by (conditional c a b) may s p = absurd (true≢false (sym may.0))

@@ -5,7 +5,7 @@ use Rattle.std.specs.List.{Contains}
 use Rattle.std.proofs.lemmas.List.Elements.{All-nil, All-cons, All-append, Contains-append_left, Contains-append_right}
 use Rattle.std.proofs.Math.Bool.{or_assoc, and_assoc, and-true}
 use Rattle.regex_class.proofs.RangesLemmas.{or-false}
-use Rattle.fancy_regex_tree.specs.Tree.{Tree, Text, look_around, no_trees, trees, tree_of}
+use Rattle.fancy_regex_tree.specs.Tree.{Tree, Text, conditional, look_around, no_trees, trees, tree_of}
 use Rattle.fancy_regex_tree.specs.declared.expr.LookAround.{LookAround}
 use Rattle.fancy_regex_tree.specs.declared.expr.Expr.{Expr}
 use Rattle.fancy_regex_meaning.specs.Groups.{group_count, row_group_count}
@@ -119,21 +119,6 @@ pub groups_more : (ts : List Tree) (t : Tree) → row_group_count (trees (ts ++ 
 unfolding group_count
 groups_more [] t = omega arith
 groups_more (u ∷ ts) t = omega (arith, groups_more ts t)
-
--- the groups of a row are counted tree by tree
-pub count_step : (es : List Expr) (i : ℕ) (e : Expr) (sum n : ℕ) → i < length es → e ≡ get_or es i e
-    → (AreRegular (trees (map tree_of (take i es))) → sum ≡ row_group_count (trees (map tree_of (take i es))))
-    → (IsRegular (tree_of e) → n ≡ group_count (tree_of e))
-    → AreRegular (trees (map tree_of (take (i + 1) es))) → sum + n ≡ row_group_count (trees (map tree_of (take (i + 1) es)))
-count_step es i e sum n h is done one =
-    rw (trees_more es i e h is)
-    (λ (regular : AreRegular (trees (map tree_of (take i es) ++ tree_of e ∷ []))).
-    let both = regular_more (map tree_of (take i es)) (tree_of e) regular in
-    omega (arith, done both.0, one both.1, groups_more (map tree_of (take i es)) (tree_of e)))
-
-pub count_whole : (es : List Expr) (i sum : ℕ) → length es ≤ i → (AreRegular (trees (map tree_of (take i es))) → sum ≡ row_group_count (trees (map tree_of (take i es))))
-    → AreRegular (all_trees es) → sum ≡ row_group_count (all_trees es)
-count_whole es i sum h done = rw (take_all i es h) at done
 
 pub classes_more : (ts : List Tree) (t : Tree) → row_classes (trees (ts ++ t ∷ [])) ≡ row_classes (trees ts) ++ classes t
 unfolding classes
@@ -278,3 +263,41 @@ nodes_step before mid after es i e nodes now node h is added done unicode groups
 pub row_whole : (before after : Translator) (es : List Expr) (i : ℕ) (xs : List Re) → length es ≤ i
     → BuildsRow before after (map tree_of (take i es)) xs → BuildsRow before after (map tree_of es) xs
 row_whole before after es i xs h done = rw (take_all i es h) at done
+
+-- the three trees of a conditional were translated one after another
+module _ (u v w : Bool) (ms ns os : List CharClassMatcher) (c a b : Tree) (same_one : v ≡ u) (same_two : w ≡ v) where
+  pub conditional_matchers : (ps : List CharClassMatcher) → Extends u ms ns (classes c) → Extends v ns os (classes a) → Extends w os ps (classes b)
+      → Extends u ms ps (classes c ++ (classes a ++ classes b))
+  conditional_matchers ps x y z =
+      let second : Extends u ns os (classes a) = rw same_one at y in
+      let third : Extends u os ps (classes b) = rw (same_two ∙ same_one) at z in
+      extends_both u ms ns ps (classes c) (classes a ++ classes b) x (extends_both u ns os ps (classes a) (classes b) second third)
+
+  pub conditional_shape : (i j l : ℕ) (x y z : Re) → IsRegular (conditional c a b)
+      → (IsRegular c → j ≡ i + group_count c) → (IsRegular a → l ≡ j + group_count a)
+      → Extends u ms ns (classes c) → Extends v ns os (classes a)
+      → (IsRegular c → (groups : List Tree) → x ≡ re_of u groups i (length ms) c)
+      → (IsRegular a → (groups : List Tree) → y ≡ re_of v groups j (length ns) a)
+      → (IsRegular b → (groups : List Tree) → z ≡ re_of w groups l (length os) b)
+      → (groups : List Tree) → re.conditional x y z ≡ re_of u groups i (length ms) (conditional c a b)
+  unfolding re_of
+  conditional_shape i j l x y z p counted counted_two adds adds_two is_x is_y is_z groups =
+      let after : l ≡ i + group_count c + group_count a = omega (arith, counted p.0, counted_two p.1.0) in
+      let most : length os ≡ length ms + length (classes c) + length (classes a) = omega (arith, adds.count, adds_two.count) in
+      ap (λ e. re.conditional e y z) (is_x p.0 groups)
+      ∙ ap₂ (λ e f. re.conditional (re_of u groups i (length ms) c) e f)
+      (is_y p.1.0 groups ∙ ap (λ m. re_of m groups j (length ns) a) same_one ∙ ap₂ (λ (m n : ℕ). re_of u groups m n a) (counted p.0) adds.count)
+      (is_z p.1.1 groups ∙ ap (λ m. re_of m groups l (length os) b) (same_two ∙ same_one) ∙ ap₂ (λ (m n : ℕ). re_of u groups m n b) after most)
+
+-- why one of the three has no matcher for each class
+module _ (unicode : Bool) (xs ys zs : List (Text × Bool)) (error : CompileError) where
+  pub cause_in_condition : IsClassCause unicode xs error → IsClassCause unicode (xs ++ (ys ++ zs)) error
+  cause_in_condition = cause_more unicode xs (xs ++ (ys ++ zs)) error (λ c there. Contains-append_left xs (ys ++ zs) c there)
+
+  pub cause_in_yes : IsClassCause unicode ys error → IsClassCause unicode (xs ++ (ys ++ zs)) error
+  cause_in_yes =
+      cause_more unicode ys (xs ++ (ys ++ zs)) error (λ c there. Contains-append_right xs (ys ++ zs) c (Contains-append_left ys zs c there))
+
+  pub cause_in_no : IsClassCause unicode zs error → IsClassCause unicode (xs ++ (ys ++ zs)) error
+  cause_in_no =
+      cause_more unicode zs (xs ++ (ys ++ zs)) error (λ c there. Contains-append_right xs (ys ++ zs) c (Contains-append_right ys zs c there))

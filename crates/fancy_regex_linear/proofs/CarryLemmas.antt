@@ -1,7 +1,7 @@
 -- A write to the slot of a group that a pattern lacks may come before its ways or after them.
 use Rattle.std.proofs.Common.{◌≡◌, ℕ, zero, suc, ◌+◌, ◌*◌, ◌-◌, Bool, true, false, List, [], ◌∷◌, ◌++◌, map, if◌then◌else◌, nat_lt, set, refl, sym, ap, ap₂, ◌∙◌, arith}
 use Rattle.std.proofs.lemmas.List.{set_comm}
-use Rattle.fancy_regex_linear.specs.Re.{Re, nothing, read, test, cat, alt, group, repeat, ask, atomic}
+use Rattle.fancy_regex_linear.specs.Re.{Re, nothing, read, test, cat, alt, group, repeat, ask, atomic, conditional}
 use Rattle.fancy_regex_states.specs.Attempts.{View, reads}
 use Rattle.fancy_regex_linear.specs.Meaning.{Spot, each, in_order, after_iteration, loop_ways, times_ways, upto_ways, tail_ways, is_unbounded, asked_ways, first_way, ways}
 
@@ -16,6 +16,7 @@ Lacks k (group g a) = (k ≡ g → ⊥) × Lacks k a
 Lacks k (repeat lo hi greedy strict a) = Lacks k a
 Lacks k (ask negated a) = Lacks k a
 Lacks k (atomic a) = Lacks k a
+Lacks k (conditional c a b) = Lacks k c × (Lacks k a × Lacks k b)
 
 each_same : (f g : Spot → List Spot) (ws : List Spot) → ((w : Spot) → f w ≡ g w) → each f ws ≡ each g ws
 each_same f g [] h = refl
@@ -137,3 +138,11 @@ ways_carry view stop k v (repeat lo hi g strict a) l s =
 ways_carry view stop k v (ask negated a) l s =
     ap (asked_ways negated (put (2 * k) v s)) (ways_carry view stop k v a l s) ∙ asked_carries (2 * k) v negated s (ways view stop a s)
 ways_carry view stop k v (atomic a) l s = ap first_way (ways_carry view stop k v a l s) ∙ first_carries (2 * k) v (ways view stop a s)
+ways_carry view stop k v (conditional c a b) l s =
+    let asked = ways view stop c s in
+    ap₂ ◌++◌
+    (ap (each (ways view stop a)) (ap first_way (ways_carry view stop k v c l.0 s) ∙ first_carries (2 * k) v asked)
+    ∙ each_carries (2 * k) v (ways view stop a) (ways_carry view stop k v a l.1.0) (first_way asked))
+    (ap (each (ways view stop b)) (ap (asked_ways true (put (2 * k) v s)) (ways_carry view stop k v c l.0 s) ∙ asked_carries (2 * k) v true s asked)
+    ∙ each_carries (2 * k) v (ways view stop b) (ways_carry view stop k v b l.1.1) (asked_ways true s asked))
+    ∙ sym (map_both (put (2 * k) v) _ _)

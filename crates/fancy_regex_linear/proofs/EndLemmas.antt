@@ -2,7 +2,7 @@
 use Rattle.std.proofs.Common.{◌≡◌, ℕ, zero, suc, ◌*◌, ◌-◌, Bool, true, false, List, [], ◌∷◌, ◌++◌, map, if◌then◌else◌, nat_lt, set, refl, sym, ap, ap₂, ◌∙◌}
 use Rattle.std.proofs.lemmas.List.{map-append}
 use Rattle.fancy_regex_states.specs.Attempts.{View, reads}
-use Rattle.fancy_regex_linear.specs.Re.{Re, nothing, read, test, cat, alt, group, repeat, ask, atomic}
+use Rattle.fancy_regex_linear.specs.Re.{Re, nothing, read, test, cat, alt, group, repeat, ask, atomic, conditional}
 use Rattle.fancy_regex_linear.specs.Meaning.{Spot, each, in_order, after_iteration, loop_ways, times_ways, upto_ways, tail_ways, is_unbounded, asked_ways, first_way, ways}
 
 -- where these ways end
@@ -113,3 +113,10 @@ module _ (view : View) (stop : ℕ) where
       (tail_alike (is_unbounded hi) stop g (ways view stop a) (ways_alike a) (hi - lo)) lo s u e
   ways_alike (ask negated a) s u e = asked_alike negated s u (ways view stop a s) (ways view stop a u) e (ways_alike a s u e)
   ways_alike (atomic a) s u e = first_alike (ways view stop a s) (ways view stop a u) (ways_alike a s u e)
+  ways_alike (conditional c a b) s u e =
+      let same = ways_alike c s u e in
+      append_alike _ _ _ _
+      (each_alike (ways view stop a) (ways view stop a) (ways_alike a) (first_way (ways view stop c s)) (first_way (ways view stop c u))
+      (first_alike (ways view stop c s) (ways view stop c u) same))
+      (each_alike (ways view stop b) (ways view stop b) (ways_alike b) (asked_ways true s (ways view stop c s)) (asked_ways true u (ways view stop c u))
+      (asked_alike true s u (ways view stop c s) (ways view stop c u) e same))

@@ -20,6 +20,7 @@ pub record NoClass (e : Expr) : Type 0 where
   pub look_around : (t : Box Expr Global) (how : LookAround) → e ≡ view.LookAround t how → ⊥
   pub repeat : (t : Box Expr Global) (lo hi : ℕ) (greedy : Bool) → e ≡ view.Repeat t lo hi greedy → ⊥
   pub atomic : (t : Box Expr Global) → e ≡ view.AtomicGroup t → ⊥
+  pub conditional : (c a b : Box Expr Global) → e ≡ view.Conditional c a b → ⊥
 
 ast_layer : (x : AstNode-F Tree (ℕ → Tree) Tree) (position : ℕ) → classes (ast_tree x position) ≡ []
 unfolding classes
@@ -56,6 +57,7 @@ rolled (Expr-F.Group t) h = absurd (h.group t (view.rolls-Group t))
 rolled (Expr-F.LookAround t how) h = absurd (h.look_around t how (view.rolls-LookAround t how))
 rolled (Expr-F.Repeat t lo hi greedy) h = absurd (h.repeat t lo hi greedy (view.rolls-Repeat t lo hi greedy))
 rolled (Expr-F.AtomicGroup t) h = absurd (h.atomic t (view.rolls-AtomicGroup t))
+rolled (Expr-F.Conditional c a b) h = absurd (h.conditional c a b (view.rolls-Conditional c a b))
 rolled (Expr-F.Absent a) h = ap classes (fold-roll-Expr Tree (ℕ → Tree) Tree absent_tree ast_tree node_tree (Expr-F.Absent a)) ∙ absent_none a
 rolled (Expr-F.AstNode a position) h = ap classes (fold-roll-Expr Tree (ℕ → Tree) Tree absent_tree ast_tree node_tree (Expr-F.AstNode a position)) ∙ ast_none a position
 rolled x h = ap classes (fold-roll-Expr Tree (ℕ → Tree) Tree absent_tree ast_tree node_tree x)

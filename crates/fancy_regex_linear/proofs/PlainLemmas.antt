@@ -1,7 +1,7 @@
 -- What the pattern of a tree is: sound, numbered from its first group on and, of a plain tree, no heavier than it.
 use Rattle.std.proofs.Common.{◌≡◌, ◌≢◌, ℕ, zero, suc, ◌+◌, ◌*◌, ◌-◌, ◌<◌, ◌≤◌, ◌==◌, min, max, Bool, true, false, cond, not, ◌&&◌, ◌||◌, List, length, Option, Some, None, nat_lt, refl, sym, ap, ap₂, ◌∙◌, arith, eq-eqb, ne_eqb, lt-ltb, true≢false}
 use Rattle.std.proofs.Math.Nat.{mul-le-mul_left}
-use Rattle.fancy_regex_tree.specs.Tree.{Tree, Trees, empty, any, assertion, general_newline, literal, concat, alt, group, look_around, repeat, delegate, atomic_group, verb, no_trees, more_trees}
+use Rattle.fancy_regex_tree.specs.Tree.{Tree, Trees, empty, any, assertion, general_newline, literal, concat, alt, group, look_around, repeat, delegate, atomic_group, conditional, verb, define_group, no_trees, more_trees}
 use Rattle.fancy_regex_tree.specs.declared.expr.Assertion.{Assertion}
 use Rattle.fancy_regex_tree.specs.declared.expr.LookAround.{LookAround}
 use Rattle.fancy_regex_tree.specs.declared.expr.LookAround.TheVariants as L
@@ -214,6 +214,7 @@ module _ (unicode : Bool) (groups : List Tree) where
     lacks m n k (alt ts) h = branches_lack m n k ts h
     lacks m n k (look_around t how) h = lacks_looked m how (char_leaf unicode k t) (re_of unicode groups n k t) (lacks m n k t h)
     lacks m n k (atomic_group t) h = lacks m n k t h
+    lacks m n k (conditional c a b) h = (lacks m n k c h, (lacks m _ _ a (omega arith), lacks m _ _ b (omega arith)))
     lacks m n k (verb v) h = tt
     lacks m n k (group t) h = (λ e. omega arith, lacks m (n + 1) k t (omega arith))
     lacks m n k (repeat t lo hi greedy) h = out_lacks m (has_no_iteration lo hi) _ (lacks m n k t h)
@@ -276,6 +277,13 @@ module _ (unicode : Bool) (groups : List Tree) (call : ℕ → Size) where
     empties n k (group t) p = empties (n + 1) k t p
     empties n k (look_around t how) p = sym (ap not (never_looked how (char_leaf unicode k t) (re_of unicode groups n k t)))
     empties n k (atomic_group t) p = empties n k t p
+    empties n k (conditional c a b) p =
+        least_zero (min unbounded ((size_with call c).least + (size_with call a).least)) (size_with call b).least
+        ∙ ap₂ ◌||◌
+        (sum_zero (size_with call c).least (size_with call a).least ∙ ap₂ ◌&&◌ (empties n k c p.0) (empties _ _ a p.1.0) ∙ not_or _ _)
+        (empties _ _ b p.1.1)
+        ∙ not_and _ _
+    empties n k (define_group t) p = refl
     empties n k (verb v) p = refl
     empties n k (repeat t lo hi greedy) p =
         product_zero lo (size_with call t).least ∙ ap₂ ◌||◌ (zero_test lo) (empties n k t p) ∙ not_and (nat_lt 0 lo) _ ∙ sym (ap not (out_moves lo hi greedy _ _))
@@ -333,6 +341,8 @@ module _ (unicode : Bool) (groups : List Tree) where
     regular_sound n k (group t) p = regular_sound (n + 1) k t p
     regular_sound n k (look_around t how) p = sound_looked how (char_leaf unicode k t) (re_of unicode groups n k t) (regular_sound n k t (body_regular t how p))
     regular_sound n k (atomic_group t) p = regular_sound n k t p
+    regular_sound n k (conditional c a b) p = (regular_sound n k c p.0, (regular_sound _ _ a p.1.0, regular_sound _ _ b p.1.1))
+    regular_sound n k (define_group t) p = tt
     regular_sound n k (verb v) p = tt
     regular_sound n k (repeat t lo hi greedy) p = out_sound (has_no_iteration lo hi) _ (never n k t p, regular_sound n k t p)
     regular_sound n k _ p = absurd p

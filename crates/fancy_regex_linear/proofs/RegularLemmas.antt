@@ -8,7 +8,7 @@ use Rattle.std.proofs.lemmas.Bool.{and_parts, cases_lt}
 use Rattle.std.proofs.lemmas.List.{map-append}
 use Rattle.std.proofs.lemmas.List.Folds.{find-append}
 use Rattle.std.proofs.lemmas.Option.{none-some, same_Some}
-use Rattle.fancy_regex_tree.specs.Tree.{Tree, Trees, Text, empty, any, assertion, general_newline, literal, concat, alt, group, look_around, repeat, delegate, atomic_group, verb, no_trees, more_trees}
+use Rattle.fancy_regex_tree.specs.Tree.{Tree, Trees, Text, empty, any, assertion, general_newline, literal, concat, alt, group, look_around, repeat, delegate, atomic_group, conditional, verb, define_group, no_trees, more_trees}
 use Rattle.fancy_regex_tree.specs.declared.expr.Assertion.{Assertion}
 use Rattle.fancy_regex_tree.specs.declared.expr.Assertion.TheVariants.{EndTextIgnoreTrailingNewlines}
 use Rattle.fancy_regex_tree.specs.declared.expr.LookAround.{LookAround}
@@ -298,6 +298,32 @@ module _ (view : View) (len : ℕ) (m : Meaning) (body : Re) (same : HasFirsts l
   unfolding plain.ways
   atomic_firsts w p = first_alone (m.from w) (plain.ways view len body (spot_of w)) (same w p anywhere)
 
+-- a conditional, where its three trees have the first ways of these patterns
+module _ (view : View) (len : ℕ) (f g h : Moves) (c a b : Re) (asks : HasFirsts len f (plain.ways view len c))
+    (leads : HasFirsts len g (plain.ways view len a)) (leaves : HasFirsts len h (plain.ways view len b)) where
+  abbrev yes_ways : List Spot → List Spot
+  yes_ways ws = each (plain.ways view len a) (first_way ws)
+
+  abbrev no_ways : Spot → List Spot → List Spot
+  no_ways s ws = each (plain.ways view len b) (asked_ways true s ws)
+
+  chosen_firsts : (w : MatchState) → w.position ≤ len → (vs : List MatchState) (ws : List Spot) → first_at anywhere (map spot_of vs) ≡ first_at anywhere ws
+      → AllOf (Between w.position len) (map spot_of vs) → SameFirst (map spot_of (ways.conditional vs g h w)) (yes_ways ws ++ no_ways (spot_of w) ws)
+  chosen_firsts w p [] [] e inside wanted =
+      leaves w p wanted ∙ ap (first_at wanted) (sym (append-nil (plain.ways view len b (spot_of w))))
+  chosen_firsts w p [] (u ∷ us) e inside wanted = absurd (none-some u e)
+  chosen_firsts w p (v ∷ vs) [] e inside wanted = absurd (none-some (spot_of v) (sym e))
+  chosen_firsts w p (v ∷ vs) (u ∷ us) e inside wanted =
+      leads v inside.0.1 wanted
+      ∙ ap (λ (x : Spot). first_at wanted (plain.ways view len a x)) (same_Some (spot_of v) u e)
+      ∙ ap (first_at wanted) (sym (append-nil (plain.ways view len a u ++ []) ∙ append-nil (plain.ways view len a u)))
+
+  conditional_firsts : HasFirsts len (λ w. ways.conditional (f w) g h w) (plain.ways view len (re.conditional c a b))
+  unfolding plain.ways
+  conditional_firsts w p =
+      chosen_firsts w p (f w) (plain.ways view len c (spot_of w)) (asks w p anywhere)
+      (body_ends len f (plain.ways view len c) (ways_end view len c) asks w p)
+
 -- whether the tree reads one character, so that a look-around is a test
 one_char_cases : (unicode : Bool) (k : ℕ) (t : Tree) → IsOneChar t ⊎ (char_leaf unicode k t ≡ None)
 one_char_cases unicode k (any newline crlf) = inl tt
@@ -384,6 +410,18 @@ module _ (s : Setting) (groups : List Tree) (unicode : Bool) (call : ℕ → Mov
         (λ made. repeat_firsts s lo hi greedy (is_unbounded hi) (meaning s groups call n t).from (plain.ways view len (re_of unicode groups n k t))
         (ways_end view len (re_of unicode groups n k t)) (ways_alike view len (re_of unicode groups n k t))
         (tree_firsts n k t p (all_stand s groups unicode call cs false same_fold k lo hi t made h))) w q
+    tree_firsts n k (conditional c a b) p h w q =
+        let after = stand_right s groups unicode call cs false same_fold k (classes c) (classes a ++ classes b) h in
+        conditional_firsts view len (meaning s groups call n c).from (meaning s groups call (n + group_count c) a).from
+        (meaning s groups call (n + group_count c + group_count a) b).from
+        (re_of unicode groups n k c) (re_of unicode groups (n + group_count c) (k + length (classes c)) a)
+        (re_of unicode groups (n + group_count c + group_count a) (k + length (classes c) + length (classes a)) b)
+        (tree_firsts n k c p.0 (stand_left s groups unicode call cs false same_fold k (classes c) (classes a ++ classes b) h))
+        (tree_firsts (n + group_count c) (k + length (classes c)) a p.1.0
+        (stand_left s groups unicode call cs false same_fold (k + length (classes c)) (classes a) (classes b) after))
+        (tree_firsts (n + group_count c + group_count a) (k + length (classes c) + length (classes a)) b p.1.1
+        (stand_right s groups unicode call cs false same_fold (k + length (classes c)) (classes a) (classes b) after)) w q
+    tree_firsts n k (define_group t) p h w q = λ wanted. refl
     tree_firsts n k (verb v) p h w q = λ wanted. refl
     tree_firsts n k _ p h w q = absurd p
 

@@ -3,7 +3,7 @@ use Rattle.std.proofs.Common.{◌≡◌, ℕ, zero, suc, ◌+◌, ◌-◌, ◌==
 use Rattle.std.specs.List.{flat_map}
 use Rattle.std.specs.Char.{len_utf8}
 use Rattle.regex_hir.specs.Text.{char_at}
-use Rattle.fancy_regex_tree.specs.Tree.{Tree, Trees, empty, any, assertion, general_newline, literal, concat, alt, group, look_around, repeat, delegate, atomic_group, verb, no_trees, more_trees}
+use Rattle.fancy_regex_tree.specs.Tree.{Tree, Trees, empty, any, assertion, general_newline, literal, concat, alt, group, look_around, repeat, delegate, atomic_group, conditional, verb, define_group, no_trees, more_trees}
 use Rattle.fancy_regex_tree.specs.declared.expr.LookAround.{LookAround}
 use Rattle.fancy_regex_tree.specs.declared.expr.LookAround.TheVariants.{LookAhead, LookAheadNeg, LookBehind, LookBehindNeg}
 use Rattle.fancy_regex_meaning.specs.Groups.{group_count}
@@ -77,6 +77,10 @@ first_keeps : (w : MatchState) (vs : List MatchState) → HaveStartOf w vs → H
 first_keeps w [] h = tt
 first_keeps w (v ∷ vs) h = (h.0, tt)
 
+conditional_keeps : (w : MatchState) (vs : List MatchState) (f g : Moves) → HaveStartOf w vs → KeepsStart f → KeepsStart g → HaveStartOf w (ways.conditional vs f g w)
+conditional_keeps w [] f g h k l = l w
+conditional_keeps w (v ∷ vs) f g h k l = Each-weaker (λ u. u.match_start ≡ v.match_start) (λ u. u.match_start ≡ w.match_start) (λ u q. q ∙ h.0) (f v) (k v)
+
 module _ (s : Setting) (groups : List Tree) (call : ℕ → Moves) where
   mutual
     unfolding meaning
@@ -100,6 +104,11 @@ module _ (s : Setting) (groups : List Tree) (call : ℕ → Moves) where
     regular_keeps_start n (group t) p w =
         Each-map (λ v. v.match_start ≡ w.match_start) (λ v. v.match_start ≡ w.match_start) (λ v. ways.set_pair n (w.position, v.position) v) (λ v e. e) ((meaning s groups call (n + 1) t).from w) (regular_keeps_start (n + 1) t p w)
     regular_keeps_start n (repeat t lo hi greedy) p w = repeat_keeps s lo (bound_of hi) greedy (meaning s groups call n t).from (regular_keeps_start n t p) w
+    regular_keeps_start n (conditional c a b) p w =
+        conditional_keeps w ((meaning s groups call n c).from w) (meaning s groups call (n + group_count c) a).from
+        (meaning s groups call (n + group_count c + group_count a) b).from (regular_keeps_start n c p.0 w)
+        (regular_keeps_start (n + group_count c) a p.1.0) (regular_keeps_start (n + group_count c + group_count a) b p.1.1)
+    regular_keeps_start n (define_group t) p w = (refl, tt)
     regular_keeps_start n (verb v) p w = tt
     regular_keeps_start n _ p w = absurd p
 

@@ -5,7 +5,8 @@ use Rattle.fancy_regex_tree.specs.declared.expr.Expr.{Expr}
 use Rattle.fancy_regex_tree.specs.declared.expr.Expr.TheVariants as expr
 use Rattle.fancy_regex_tree.specs.declared.expr.Absent.TheOpen.{Expr-F}
 use Rattle.fancy_regex_tree.specs.declared.expr.Absent.TheFolds.{fold-roll-Expr}
-use Rattle.fancy_regex_linear.specs.Re.{Re, read, test, repeat, ask, cats, alts, node_shape, shape, shapes}
+use Rattle.fancy_regex_tree.specs.Tree.{conditional as if_tree}
+use Rattle.fancy_regex_linear.specs.Re.{Re, read, test, repeat, ask, conditional, cats, alts, node_shape, shape, shapes}
 use Rattle.fancy_regex_linear.specs.Translation.{all_trees}
 use Rattle.fancy_regex_linear.specs.declared.node.Node.{Node, Node-F, fold-roll-Node}
 use Rattle.fancy_regex_linear.specs.declared.node.Node.TheVariants as node
@@ -38,3 +39,22 @@ shape_read leaf = ap shape (sym (node.rolls-Read leaf)) ∙ fold-roll-Node Re no
 
 pub shape_look : (check : Test) → shape (node.Look check) ≡ test check
 shape_look check = ap shape (sym (node.rolls-Look check)) ∙ fold-roll-Node Re node_shape (Node-F.Look check)
+
+pub shape_conditional : (condition first second : Box Node Global) → shape (node.Conditional condition first second) ≡ conditional (shape condition.value) (shape first.value) (shape second.value)
+shape_conditional condition first second =
+    ap shape (sym (node.rolls-Conditional condition first second)) ∙ fold-roll-Node Re node_shape (Node-F.Conditional condition first second)
+
+-- one in whose boxes these nodes lie
+pub shape_of_boxes : (condition first second : Box Node Global) (x y z : Node) → condition.value ≡ x → first.value ≡ y → second.value ≡ z
+    → shape (node.Conditional condition first second) ≡ conditional (shape x) (shape y) (shape z)
+shape_of_boxes condition first second x y z a b c =
+    shape_conditional condition first second
+    ∙ ap (λ u. conditional (shape u) (shape first.value) (shape second.value)) a
+    ∙ ap (λ u. conditional (shape x) (shape u) (shape second.value)) b
+    ∙ ap (λ u. conditional (shape x) (shape y) (shape u)) c
+
+pub tree_conditional : (condition first second : Box Expr Global)
+    → tree_of (expr.Conditional condition first second) ≡ if_tree (tree_of condition.value) (tree_of first.value) (tree_of second.value)
+tree_conditional condition first second =
+    ap tree_of (sym (expr.rolls-Conditional condition first second))
+    ∙ fold-roll-Expr Tree (ℕ → Tree) Tree absent_tree ast_tree node_tree (Expr-F.Conditional condition first second)

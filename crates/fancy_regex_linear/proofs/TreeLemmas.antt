@@ -4,14 +4,14 @@ use Rattle.std.proofs.lemmas.Bool.{cases_lt}
 use Rattle.fancy_regex_states.specs.Attempts.{View, AttemptResult, Continuation, guard, either, save, accept, asked, passed, pick, NamesBelow, MayAsk, visit}
 use Rattle.fancy_regex_linear.specs.Meaning.{is_unbounded}
 use Rattle.fancy_regex_linear.specs.Attempt.{attempt}
-use Rattle.fancy_regex_linear.specs.Program.{IsSound, MayAskIn, push, Emitter, BothEmitter, emitted, emitted_part, emitted_both, emitted_both_group, emitted_both_part, emitted_both_asking, AgreeBut}
-use Rattle.fancy_regex_linear.specs.Re.{Re, nothing, read, test, cat, alt, group, repeat, ask, atomic}
+use Rattle.fancy_regex_linear.specs.Program.{IsSound, MayAskIn, push, Emitter, BothEmitter, emitted, emitted_part, emitted_both, emitted_both_group, emitted_both_part, emitted_both_asking, emitted_choice, AgreeBut}
+use Rattle.fancy_regex_linear.specs.Re.{Re, nothing, read, test, cat, alt, group, repeat, ask, atomic, conditional}
 use Rattle.fancy_regex_states.specs.declared.state.State.{State}
 use Rattle.fancy_regex_states.specs.declared.state.State.TheVariants.{Split, Enter, Leave, Ask, Atomic, Match}
 use Rattle.fancy_regex_states.specs.declared.state.State.TheVariants as S
-use Rattle.fancy_regex_linear.proofs.AgreeLemmas.{guard_cong, passed_cong, reads_below, pick_same, pick_moved, pick_both, Looks, attempt_agree, attempt_moves}
+use Rattle.fancy_regex_linear.proofs.AgreeLemmas.{IsWithin, end_within, guard_cong, passed_cong, reads_below, pick_same, pick_moved, pick_both, Looks, attempt_agree, attempt_moves, attempt_ends}
 use Rattle.fancy_regex_linear.proofs.EmitLemmas.{length-push, names_more, visit_same, push_done, Done, DoneBoth}
-use Rattle.fancy_regex_linear.proofs.RepeatLemmas.{Emits, EmitsTwo, seq_done, seq_two_done, repeat_done, repeat_two_done}
+use Rattle.fancy_regex_linear.proofs.RepeatLemmas.{Emits, EmitsTwo, picks_rest, seq_done, seq_two_done, repeat_done, repeat_two_done}
 
 module _ (view : View) (stop : ℕ) where
   -- a tree from i, where nothing was moved yet
@@ -99,11 +99,54 @@ module _ (view : View) (stop : ℕ) where
         moved_means = λ i h. ap (λ k. k i) q.here;
       }
 
+  -- two states after these, and the choice between them
+  choice_done : (Open : ℕ → Type 0) (states : List State) (go : ℕ → Continuation) (one two : State) (g : Continuation) → AgreeBut view stop Open states go
+      → NamesBelow (length states) one → NamesBelow (length states) two → MayAsk view.has_parts one → MayAsk view.has_parts two
+      → ((i : ℕ) → i ≤ stop → g i ≡ either view.longest (visit view stop go one i) (visit view stop go two i))
+      → Done view stop Open states go (emitted_choice one two states) g
+  unfolding emitted_choice
+  choice_done Open states go one two g before names names2 asks asks2 does =
+      let p = push_done view stop Open states go one (visit view stop go one) before (inr (names, asks, λ i h. refl)) in
+      let len = length-push states one in
+      let q = push_done view stop Open (push states one) p.next_go two (visit view stop go two) p.agree
+      (inr (
+        names_more (length states) (length (push states one)) two (omega arith) names2,
+        asks2,
+        λ i h. sym (visit_same view stop go p.next_go (length states) two names2 p.unchanged i),
+      )) in
+      let len2 = length-push (push states one) two in
+      let state : State = Split (length states) (length (push states one)) in
+      let r = push_done view stop Open (push (push states one) two) q.next_go state g q.agree
+      (inr (
+        (omega arith, omega arith),
+        tt,
+        λ i h. does i h
+            ∙ ap₂ (either view.longest)
+            (ap (λ f. f i) (sym (q.unchanged (length states) (omega arith) ∙ p.here)))
+            (ap (λ f. f i) (sym q.here)),
+      )) in
+      let len3 = length-push (push (push states one) two) state in
+      record {
+        next_go = r.next_go;
+        unchanged = λ n h. r.unchanged n (omega arith) ∙ q.unchanged n (omega arith) ∙ p.unchanged n h;
+        longer = omega arith;
+        agree = r.agree;
+        entry = omega arith;
+        means = λ i h. ap (λ f. f i) r.here;
+      }
+
   -- what goes on at one place, moved or not
   passes_one : (go : ℕ → Continuation) (k : Continuation) (result : AttemptResult) (part next i : ℕ) → go part i ≡ result → go next ≡ k
       → passed result k ≡ passed (go part i) (pick i (go next) (go next))
   passes_one go k result part next i part_means next_means =
       ap₂ passed (sym part_means) (sym next_means) ∙ sym (passed_cong (go part i) (pick i (go next) (go next)) (go next) (λ t e. pick_both i (go next) t.end))
+
+  -- a branch goes on at the end of the part, which is in the range
+  branch_passes : (go : ℕ → Continuation) (k : Continuation) (result : AttemptResult) (part next i : ℕ) → go part i ≡ result
+      → IsWithin i stop result.answer → ((j : ℕ) → j ≤ stop → go next j ≡ k j) → passed result k ≡ passed (go part i) (pick i (go next) (go next))
+  branch_passes go k result part next i part_means within next_means =
+      passed_cong result k (go next) (λ t is. sym (next_means t.end (end_within i stop result.answer t within is).1))
+      ∙ passes_one go (go next) result part next i part_means refl
 
   pub emit_done : ((t : Re) → IsSound t → MayAskIn view.has_parts t → EmitsBoth t) → (t : Re) → IsSound t → MayAskIn view.has_parts t → Emits view stop (emitted t) (attempt view stop t)
   unfolding emitted attempt
@@ -183,6 +226,32 @@ module _ (view : View) (stop : ℕ) where
       state_after_done Open states go part (attempt view stop a accept) (Atomic part.1 next next) (attempt view stop (atomic a) (go next)) d
       (d.entry, omega (arith, d.longer), omega (arith, d.longer)) may.0
       (λ i h. passes_one d.next_go (go next) (attempt view stop a accept i) part.1 next i (d.means i h) (d.unchanged next inside))
+  emit_done both (conditional c a b) sound may Open states go next before inside =
+      let d = emit_done both b sound.1.1 may.1.1.1 Open states go next before inside in
+      let right = emitted b states next in
+      let e = emit_done both a sound.1.0 may.1.1.0 Open right.0 d.next_go next d.agree (omega (arith, d.longer)) in
+      let left = emitted a right.0 next in
+      let f = part_done (emitted c) (attempt view stop c) (emit_done both c sound.0 may.1.0) Open left.0 e.next_go e.agree in
+      let part = emitted_part (emitted c) left.0 in
+      let one : State = Atomic part.1 left.1 left.1 in
+      let two : State = Ask part.1 true right.1 in
+      let r = choice_done Open part.0 f.next_go one two (attempt view stop (conditional c a b) (go next)) f.agree
+      (f.entry, omega (arith, e.entry, f.longer), omega (arith, e.entry, f.longer)) (f.entry, omega (arith, d.entry, e.longer, f.longer)) may.0 may.0
+      (λ i h. ap₂ (either view.longest)
+      (branch_passes f.next_go (attempt view stop a (go next)) (attempt view stop c accept i) part.1 left.1 i (f.means i h)
+      (attempt_ends view stop c i h)
+      (λ j p. ap (λ k. k j) (f.unchanged left.1 e.entry) ∙ e.means j p ∙ ap (λ k. attempt view stop a k j) (d.unchanged next inside)))
+      (ap₂ (asked true) (sym (f.means i h))
+      (sym (ap (λ k. k i) (f.unchanged right.1 (omega (arith, d.entry, e.longer)) ∙ e.unchanged right.1 d.entry) ∙ d.means i h)))) in
+      record {
+        next_go = r.next_go;
+        unchanged = λ q h. r.unchanged q (omega (arith, d.longer, e.longer, f.longer)) ∙ f.unchanged q (omega (arith, d.longer, e.longer))
+            ∙ e.unchanged q (omega (arith, d.longer)) ∙ d.unchanged q h;
+        longer = omega (arith, d.longer, e.longer, f.longer, r.longer);
+        agree = r.agree;
+        entry = r.entry;
+        means = r.means;
+      }
 
   -- what follows is applied on both sides of a pick
   pick_map : (f : ℕ → AttemptResult → AttemptResult) (i : ℕ) (same moved same2 moved2 : Continuation) (j : ℕ) → same2 j ≡ f j (same j) → moved2 j ≡ f j (moved j)
@@ -192,6 +261,17 @@ module _ (view : View) (stop : ℕ) where
       (λ lt. pick_moved i same2 moved2 j lt ∙ m ∙ ap (f j) (sym (pick_moved i same moved j lt)))
       (λ ge. pick_same i same2 moved2 j ge ∙ e ∙ ap (f j) (sym (pick_same i same moved j ge)))
       (cases_lt i j)
+
+  -- a branch goes on at the end of the part, moved or not
+  both_branch_passes : (go : ℕ → Continuation) (B : Continuation → Continuation) → Looks view stop B → (same moved : Continuation) (result : AttemptResult)
+      (part at_same at_moved i : ℕ) → go part i ≡ result → IsWithin i stop result.answer
+      → ((j : ℕ) → j ≤ stop → go at_same j ≡ B (pick j same moved) j) → ((j : ℕ) → j ≤ stop → go at_moved j ≡ B moved j)
+      → passed result (B (pick i same moved)) ≡ passed (go part i) (pick i (go at_same) (go at_moved))
+  both_branch_passes go B ok same moved result part at_same at_moved i part_means within same_means moved_means =
+      passed_cong result (B (pick i same moved)) (pick i (go at_same) (go at_moved))
+      (λ t is. let ends = end_within i stop result.answer t within is in
+      sym (picks_rest view stop B ok i t.end same moved (go at_same) (go at_moved) ends.0 ends.1 (same_means t.end ends.1) (moved_means t.end ends.1)))
+      ∙ ap (λ r. passed r (pick i (go at_same) (go at_moved))) (sym part_means)
 
   pub emit_both_done : (t : Re) → IsSound t → MayAskIn view.has_parts t → EmitsBoth t
   unfolding emitted_both emitted_both_group attempt
@@ -340,6 +420,52 @@ module _ (view : View) (stop : ℕ) where
       (d.entry, omega (arith, d.longer), omega (arith, d.longer)) (d.entry, omega (arith, d.longer), omega (arith, d.longer)) may.0 may.0
       (λ i h. ap₂ passed (sym (d.means i h)) (ap₂ (pick i) (sym (d.unchanged same a_in)) (sym (d.unchanged moved b_in))))
       (λ i h. passes_one d.next_go (go moved) (attempt view stop a accept i) part.1 moved i (d.means i h) (d.unchanged moved b_in))
+  emit_both_done (conditional c a b) sound may Open states go same moved before a_in b_in =
+      let d = emit_both_done b sound.1.1 may.1.1.1 Open states go same moved before a_in b_in in
+      let right = emitted_both b states same moved in
+      let e = emit_both_done a sound.1.0 may.1.1.0 Open right.0 d.next_go same moved d.agree (omega (arith, d.longer)) (omega (arith, d.longer)) in
+      let left = emitted_both a right.0 same moved in
+      let f = both_part_done (emitted_both c) (attempt view stop c) (attempt_agree view stop c) (emit_both_done c sound.0 may.1.0) Open left.0 e.next_go e.agree in
+      let part = emitted_both_part (emitted_both c) left.0 in
+      let one : State = Atomic part.1 left.1 left.2 in
+      let two : State = Ask part.1 true right.1 in
+      let r = choice_done Open part.0 f.next_go one two (fresh (conditional c a b) (go same) (go moved)) f.agree
+      (f.entry, omega (arith, e.same_in, f.longer), omega (arith, e.moved_in, f.longer)) (f.entry, omega (arith, d.same_in, e.longer, f.longer)) may.0 may.0
+      (λ i h. ap₂ (either view.longest)
+      (both_branch_passes f.next_go (attempt view stop a) (attempt_agree view stop a) (go same) (go moved) (attempt view stop c accept i) part.1 left.1 left.2 i (f.means i h)
+      (attempt_ends view stop c i h)
+      (λ j p. ap (λ k. k j) (f.unchanged left.1 e.same_in) ∙ e.same_means j p
+      ∙ ap₂ (λ k l. fresh a k l j) (d.unchanged same a_in) (d.unchanged moved b_in))
+      (λ j p. ap (λ k. k j) (f.unchanged left.2 e.moved_in) ∙ e.moved_means j p ∙ ap (λ k. attempt view stop a k j) (d.unchanged moved b_in)))
+      (ap₂ (asked true) (sym (f.means i h))
+      (sym (ap (λ k. k i) (f.unchanged right.1 (omega (arith, d.same_in, e.longer)) ∙ e.unchanged right.1 d.same_in) ∙ d.same_means i h)))) in
+      let first = emitted_choice one two part.0 in
+      let three : State = Atomic part.1 left.2 left.2 in
+      let four : State = Ask part.1 true right.2 in
+      let s = choice_done Open first.0 r.next_go three four (attempt view stop (conditional c a b) (go moved)) r.agree
+      (omega (arith, f.entry, r.longer), omega (arith, e.moved_in, f.longer, r.longer), omega (arith, e.moved_in, f.longer, r.longer))
+      (omega (arith, f.entry, r.longer), omega (arith, d.moved_in, e.longer, f.longer, r.longer)) may.0 may.0
+      (λ i h.
+      let asked_means : r.next_go part.1 i ≡ attempt view stop c accept i = ap (λ k. k i) (r.unchanged part.1 f.entry) ∙ f.means i h in
+      ap₂ (either view.longest)
+      (branch_passes r.next_go (attempt view stop a (go moved)) (attempt view stop c accept i) part.1 left.2 i asked_means
+      (attempt_ends view stop c i h)
+      (λ j p. ap (λ k. k j) (r.unchanged left.2 (omega (arith, e.moved_in, f.longer)) ∙ f.unchanged left.2 e.moved_in) ∙ e.moved_means j p
+      ∙ ap (λ k. attempt view stop a k j) (d.unchanged moved b_in)))
+      (ap₂ (asked true) (sym asked_means)
+      (sym (ap (λ k. k i) (r.unchanged right.2 (omega (arith, d.moved_in, e.longer, f.longer)) ∙ f.unchanged right.2 (omega (arith, d.moved_in, e.longer))
+      ∙ e.unchanged right.2 d.moved_in) ∙ d.moved_means i h)))) in
+      record {
+        next_go = s.next_go;
+        unchanged = λ q h. s.unchanged q (omega (arith, d.longer, e.longer, f.longer, r.longer)) ∙ r.unchanged q (omega (arith, d.longer, e.longer, f.longer))
+            ∙ f.unchanged q (omega (arith, d.longer, e.longer)) ∙ e.unchanged q (omega (arith, d.longer)) ∙ d.unchanged q h;
+        longer = omega (arith, d.longer, e.longer, f.longer, r.longer, s.longer);
+        agree = s.agree;
+        same_in = omega (arith, r.entry, s.longer);
+        moved_in = s.entry;
+        same_means = λ i h. ap (λ k. k i) (s.unchanged first.1 r.entry) ∙ r.means i h;
+        moved_means = s.means;
+      }
 
   -- the states of a tree, with nothing open
   pub emit_means : (t : Re) → IsSound t → MayAskIn view.has_parts t → (states : List State) (go : ℕ → Continuation) (next : ℕ)
@@ -358,3 +484,4 @@ may_all (group g a) = may_all a
 may_all (repeat lo hi greedy strict a) = may_all a
 may_all (ask negated a) = (refl, may_all a)
 may_all (atomic a) = (refl, may_all a)
+may_all (conditional c a b) = (refl, (may_all c, (may_all a, may_all b)))

@@ -7,7 +7,7 @@ use Rattle.fancy_regex_linear.specs.Meaning.{Spot, each, in_order, after_iterati
 use Rattle.fancy_regex_linear.specs.Attempt.{apply, trace_end}
 use Rattle.fancy_regex_linear.specs.Attempt.{better_spot, prefer, iterations, times_try, upto_try, tail_try, attempt}
 use Rattle.fancy_regex_linear.specs.Program.{MayAskIn}
-use Rattle.fancy_regex_linear.specs.Re.{Re, nothing, read, test, cat, alt, group, repeat, ask, atomic}
+use Rattle.fancy_regex_linear.specs.Re.{Re, nothing, read, test, cat, alt, group, repeat, ask, atomic, conditional}
 use Rattle.fancy_regex_linear.proofs.AgreeLemmas.{pick_same, pick_moved}
 
 pub better-None : {A : Type 0} (rank : A → ℕ) (a : Option A) → better rank a None ≡ a
@@ -246,6 +246,18 @@ module _ (view : View) (stop : ℕ) where
       asked_list view.longest negated s k (attempt view stop a accept s.at).answer (ways view stop a s) (attempt_lists first a may.1 accept s ∙ first_is (first may.0) (ways view stop a s))
   attempt_lists first (atomic a) may k s =
       passed_list view.longest s k (attempt view stop a accept s.at).answer (ways view stop a s) (attempt_lists first a may.1 accept s ∙ first_is (first may.0) (ways view stop a s))
+  attempt_lists first (conditional c a b) may k s =
+      let asked = ways view stop c s in
+      let finds = attempt_lists first c may.1.0 accept s ∙ first_is (first may.0) asked in
+      trace_end_better view.longest s.slots _ _
+      ∙ ap₂ (better_spot view.longest)
+      (passed_list view.longest s (attempt view stop a k) (attempt view stop c accept s.at).answer asked finds
+      ∙ first_cong view.longest _ _ (first_way asked) (λ w. attempt_lists first a may.1.1.0 k w)
+      ∙ sym (first_each view.longest (onward k) (ways view stop a) (first_way asked)))
+      (asked_list view.longest true s (attempt view stop b k) (attempt view stop c accept s.at).answer asked finds
+      ∙ first_cong view.longest _ _ (asked_ways true s asked) (λ w. attempt_lists first b may.1.1.1 k w)
+      ∙ sym (first_each view.longest (onward k) (ways view stop b) (asked_ways true s asked)))
+      ∙ sym (first_append view.longest (onward k) (each (ways view stop a) (first_way asked)) (each (ways view stop b) (asked_ways true s asked)))
 
   -- a part has the first of its ways
   pub part_first : (view.has_parts ≡ true → view.longest ≡ false) → view.longest ≡ false → (t : Re) → MayAskIn view.has_parts t → (s : Spot)

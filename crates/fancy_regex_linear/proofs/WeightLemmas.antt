@@ -1,8 +1,8 @@
 -- A tree becomes no more states than it weighs.
 use Rattle.std.proofs.Common.{◌≡◌, ℕ, zero, suc, ◌-◌, max, Bool, true, false, ◌+◌, ◌*◌, ◌≤◌, List, [], ◌∷◌, length, arith, length-append, length-set}
-use Rattle.fancy_regex_linear.specs.Program.{loop_head, push, Emitter, BothEmitter, emitted_times, emitted_both_times, emitted_upto, emitted_both_upto, emitted_star, emitted_both_star, emitted_plus, emitted_both_plus, emitted_many, emitted_both_many, emitted_repeat, emitted_both_repeat, emitted_both_group, emitted_part, emitted_both_part, emitted_both_asking, repeat_weight, emitted, emitted_both, weight}
+use Rattle.fancy_regex_linear.specs.Program.{loop_head, push, Emitter, BothEmitter, emitted_times, emitted_both_times, emitted_upto, emitted_both_upto, emitted_star, emitted_both_star, emitted_plus, emitted_both_plus, emitted_many, emitted_both_many, emitted_repeat, emitted_both_repeat, emitted_both_group, emitted_part, emitted_both_part, emitted_both_asking, emitted_choice, repeat_weight, emitted, emitted_both, weight}
 use Rattle.fancy_regex_linear.specs.Meaning.{is_unbounded}
-use Rattle.fancy_regex_linear.specs.Re.{Re, nothing, read, test, cat, alt, group, repeat, ask, atomic}
+use Rattle.fancy_regex_linear.specs.Re.{Re, nothing, read, test, cat, alt, group, repeat, ask, atomic, conditional}
 use Rattle.fancy_regex_states.specs.declared.state.State.{State}
 use Rattle.fancy_regex_states.specs.declared.state.State.TheVariants.{Split, Enter, Leave, Ask, Atomic, Match}
 use Rattle.fancy_regex_states.specs.declared.state.State.TheVariants as S
@@ -146,6 +146,13 @@ asking_weighs : (same moved : State) (states : List State) → length (emitted_b
 unfolding emitted_both_asking
 asking_weighs same moved states = omega (arith, pushes states same, pushes (push states same) moved)
 
+choice_weighs : (first second : State) (states : List State) → length (emitted_choice first second states).0 ≡ length states + 3
+unfolding emitted_choice
+choice_weighs first second states =
+    let one = push states first in
+    let two = push one second in
+    omega (arith, pushes states first, pushes one second, pushes two (Split (length states) (length one)))
+
 pub emitted_both_weighs : (t : Re) (states : List State) (same moved : ℕ)
     → length (emitted_both t states same moved).0 ≤ length states + 2 * weight t
 unfolding emitted_both weight
@@ -185,6 +192,19 @@ emitted_both_weighs (atomic a) states same moved =
       both_part_weighs (emitted_both a) (2 * weight a) (emitted_both_weighs a) states,
       asking_weighs (Atomic part.1 same moved) (Atomic part.1 moved moved) part.0,
     )
+emitted_both_weighs (conditional c a b) states same moved =
+    let right = emitted_both b states same moved in
+    let left = emitted_both a right.0 same moved in
+    let part = emitted_both_part (emitted_both c) left.0 in
+    let first = emitted_choice (Atomic part.1 left.1 left.2) (Ask part.1 true right.1) part.0 in
+    omega (
+      arith,
+      emitted_both_weighs b states same moved,
+      emitted_both_weighs a right.0 same moved,
+      both_part_weighs (emitted_both c) (2 * weight c) (emitted_both_weighs c) left.0,
+      choice_weighs (Atomic part.1 left.1 left.2) (Ask part.1 true right.1) part.0,
+      choice_weighs (Atomic part.1 left.2 left.2) (Ask part.1 true right.2) first.0,
+    )
 
 pub emitted_weighs : (t : Re) (states : List State) (next : ℕ)
     → length (emitted t states next).0 ≤ length states + weight t
@@ -216,3 +236,14 @@ emitted_weighs (ask negated a) states next =
 emitted_weighs (atomic a) states next =
     let part = emitted_part (emitted a) states in
     omega (arith, part_weighs (emitted a) (weight a) (emitted_weighs a) states, pushes part.0 (Atomic part.1 next next))
+emitted_weighs (conditional c a b) states next =
+    let right = emitted b states next in
+    let left = emitted a right.0 next in
+    let part = emitted_part (emitted c) left.0 in
+    omega (
+      arith,
+      emitted_weighs b states next,
+      emitted_weighs a right.0 next,
+      part_weighs (emitted c) (weight c) (emitted_weighs c) left.0,
+      choice_weighs (Atomic part.1 left.1 left.1) (Ask part.1 true right.1) part.0,
+    )

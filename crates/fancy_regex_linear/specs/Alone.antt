@@ -6,7 +6,6 @@ use Rattle.fancy_regex_class.specs.Looks.{looked_text, look_count, SameCounter}
 use Rattle.fancy_regex_class.specs.declared.counted.Counted.{Counted}
 use Rattle.fancy_regex_states.specs.Attempts.{View, Continuation}
 use Rattle.fancy_regex_table.specs.Ends.{end_of}
-use Rattle.fancy_regex_table.specs.Tables.{AreBoundaries}
 use Rattle.fancy_regex_linear.specs.Find.{places, places_from}
 use Rattle.fancy_regex_linear.specs.Search.{Explains}
 use Rattle.fancy_regex_linear.specs.Settled.{FailBetween}
@@ -75,7 +74,7 @@ pub record IsUnknownAt (context : SearchContext) (text : List ℕ) (place : Star
   pub split : places text false place.at context.stop ≡ place.at ∷ places_from text false place.next context.stop
   pub fails : AllFailBetween context text place.at from
   pub range : (place.at ≤ from) × (from ≤ read) × (read ≤ context.stop)
-  pub boundaries : AreBoundaries text place.at read
+  pub boundaries : IsCharBoundary text from × IsCharBoundary text read
 
 -- a start of which it does not tell is made of a place and the character there
 abbrev pub IsUnknown : SearchContext → ℕ × Option ℕ → ℕ → ℕ → Alone → Type 0

@@ -1,6 +1,6 @@
 -- An attempt to match a pattern at an offset: its answer, and the depth of its search.
 use Rattle.std.specs.Prelude.{true, false, ℕ, zero, suc, ◌+◌, ◌-◌, ◌*◌, Bool, List, [], ◌∷◌, Option, Some, None, if◌then◌else◌, slice_set}
-use Rattle.fancy_regex_linear.specs.Re.{Re, nothing, read, test, cat, alt, group, repeat, ask, atomic}
+use Rattle.fancy_regex_linear.specs.Re.{Re, nothing, read, test, cat, alt, group, repeat, ask, atomic, conditional}
 use Rattle.fancy_regex_states.specs.Attempts.{View, Trace, AttemptResult, Continuation, score, better, failed, guard, save, either, reads, accept, asked, passed, pick}
 use Rattle.fancy_regex_linear.specs.Meaning.{Spot, is_unbounded}
 
@@ -47,6 +47,8 @@ module _ (view : View) (stop : ℕ) where
       times_try (attempt a) lo (tail_try view.longest (is_unbounded hi) stop greedy (attempt a) (hi - lo) k) i
   attempt (ask negated a) k i = asked negated (attempt a accept i) (k i)
   attempt (atomic a) k i = passed (attempt a accept i) k
+  attempt (conditional c a b) k i =
+      either view.longest (passed (attempt c accept i) (attempt a k)) (asked true (attempt c accept i) (attempt b k i))
 
 -- the slots after these writes
 unfoldable pub apply : List (ℕ × ℕ) → List ℕ → List ℕ

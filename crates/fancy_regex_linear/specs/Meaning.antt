@@ -1,6 +1,6 @@
 -- What a pattern matches in a range: the list of its matches in the order of preference (the ways).
 use Rattle.std.specs.Prelude.{ℕ, zero, suc, ◌+◌, ◌-◌, ◌*◌, Bool, true, false, List, [], ◌∷◌, ◌++◌, map, if◌then◌else◌, nat_lt, nat_le, nat_eq, slice_set}
-use Rattle.fancy_regex_linear.specs.Re.{Re, nothing, read, test, cat, alt, group, repeat, ask, atomic}
+use Rattle.fancy_regex_linear.specs.Re.{Re, nothing, read, test, cat, alt, group, repeat, ask, atomic, conditional}
 use Rattle.fancy_regex_states.specs.Attempts.{View, reads}
 
 -- where a match of a node ends (a byte offset), and the slots then
@@ -70,6 +70,7 @@ module _ (view : View) (stop : ℕ) where
       times_ways (ways a) lo (tail_ways (is_unbounded hi) stop greedy (ways a) (hi - lo)) s
   ways (ask negated a) s = asked_ways negated s (ways a s)
   ways (atomic a) s = first_way (ways a s)
+  ways (conditional c a b) s = each (ways a) (first_way (ways c s)) ++ each (ways b) (asked_ways true s (ways c s))
 
 -- the ways that end by `stop`
 unfoldable pub ending_by : ℕ → List Spot → List Spot

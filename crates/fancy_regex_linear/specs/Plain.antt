@@ -1,6 +1,6 @@
 -- Plain trees, and the patterns of two branches at most that they become.
 use Rattle.std.specs.Prelude.{◌≢◌, ℕ, ◌+◌, Bool, true, false, not, ◌&&◌, List, [], ◌∷◌, ◌++◌, map, length, Option, Some, None, slice_index, if◌then◌else◌, ◌==◌}
-use Rattle.fancy_regex_tree.specs.Tree.{Tree, Trees, Text, empty, any, assertion, general_newline, literal, concat, alt, group, look_around, repeat, delegate, atomic_group, verb, no_trees, more_trees}
+use Rattle.fancy_regex_tree.specs.Tree.{Tree, Trees, Text, empty, any, assertion, general_newline, literal, concat, alt, group, look_around, repeat, delegate, atomic_group, conditional, verb, define_group, no_trees, more_trees}
 use Rattle.fancy_regex_tree.specs.declared.expr.Assertion.{Assertion}
 use Rattle.fancy_regex_tree.specs.declared.expr.Assertion.TheVariants as A
 use Rattle.fancy_regex_tree.specs.declared.expr.BacktrackingControlVerb.{BacktrackingControlVerb}
@@ -72,8 +72,8 @@ abbrev pub IsFail : BacktrackingControlVerb → Type 0
 IsFail Fail = Unit {0}
 IsFail _ = ⊥
 
--- Trees that become a pattern with parts: plain ones, `\R`, `\Z`, those that never match, look-aheads and atomic groups over any such
--- tree.
+-- Trees that become a pattern with parts: plain ones, `\R`, `\Z`, those that never match, definitions of groups, which match the
+-- empty string, and look-aheads, atomic groups and conditionals over any such trees.
 abbrev mutual
   pub IsRegular : Tree → Type 0
   IsRegular empty = Unit {0}
@@ -90,6 +90,8 @@ abbrev mutual
   IsRegular (look_around t L.LookBehind) = IsOneChar t
   IsRegular (look_around t L.LookBehindNeg) = IsOneChar t
   IsRegular (atomic_group t) = IsRegular t
+  IsRegular (conditional c a b) = IsRegular c × (IsRegular a × IsRegular b)
+  IsRegular (define_group t) = Unit {0}
   IsRegular (verb v) = IsFail v
   IsRegular (repeat t lo hi greedy) = IsRegular t
   IsRegular _ = ⊥
@@ -120,6 +122,7 @@ unfoldable mutual
   classes (group t) = classes t
   classes (look_around t how) = classes t
   classes (atomic_group t) = classes t
+  classes (conditional c a b) = classes c ++ (classes a ++ classes b)
   classes (repeat t lo hi greedy) = if has_no_iteration lo hi then [] else classes t
   classes _ = []
 
@@ -198,6 +201,9 @@ module _ (unicode : Bool) (groups : List Tree) where
     re_of n k (group t) = re.group n (re_of (n + 1) k t)
     re_of n k (look_around t how) = looked how (char_leaf unicode k t) (re_of n k t)
     re_of n k (atomic_group t) = re.atomic (re_of n k t)
+    re_of n k (conditional c a b) =
+        re.conditional (re_of n k c) (re_of (n + group_count c) (k + length (classes c)) a)
+        (re_of (n + group_count c + group_count a) (k + length (classes c) + length (classes a)) b)
     re_of n k (verb v) = re.test Never
     re_of n k (repeat t lo hi greedy) =
         unless (has_no_iteration lo hi) (re.repeat lo hi greedy (not (may_be_empty groups t)) (re_of n k t))

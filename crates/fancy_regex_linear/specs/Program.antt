@@ -3,7 +3,7 @@ use Rattle.std.specs.Prelude.{◌≡◌, ℕ, zero, suc, ◌-◌, true, false, �
 use Rattle.fancy_regex_states.specs.First.{state_at}
 use Rattle.fancy_regex_states.specs.Attempts.{Continuation, View, Agrees}
 use Rattle.fancy_regex_linear.specs.Meaning.{is_unbounded}
-use Rattle.fancy_regex_linear.specs.Re.{Re, nothing, read, test, cat, alt, group, repeat, ask, atomic}
+use Rattle.fancy_regex_linear.specs.Re.{Re, nothing, read, test, cat, alt, group, repeat, ask, atomic, conditional}
 use Rattle.fancy_regex_states.specs.declared.state.State.{State}
 use Rattle.fancy_regex_states.specs.declared.state.State.TheVariants.{Split, Enter, Leave, Ask, Atomic, Match}
 use Rattle.fancy_regex_states.specs.declared.state.State.TheVariants as S
@@ -26,6 +26,7 @@ never_empty (group g a) = never_empty a
 never_empty (repeat lo hi greedy strict a) = nat_lt 0 lo && never_empty a
 never_empty (ask negated a) = false
 never_empty (atomic a) = never_empty a
+never_empty (conditional c a b) = (never_empty c || never_empty a) && never_empty b
 
 -- a repeat that says of its body that each way moves is right
 abbrev pub IsSound : Re → Type 0
@@ -38,6 +39,7 @@ IsSound (group g a) = IsSound a
 IsSound (repeat lo hi greedy strict a) = (strict ≡ true → never_empty a ≡ true) × IsSound a
 IsSound (ask negated a) = IsSound a
 IsSound (atomic a) = IsSound a
+IsSound (conditional c a b) = IsSound c × (IsSound a × IsSound b)
 
 -- the pattern asks parts only where it may
 abbrev pub MayAskIn : Bool → Re → Type 0
@@ -50,6 +52,8 @@ MayAskIn has_parts (group g a) = MayAskIn has_parts a
 MayAskIn has_parts (repeat lo hi greedy strict a) = MayAskIn has_parts a
 MayAskIn has_parts (ask negated a) = (has_parts ≡ true) × MayAskIn has_parts a
 MayAskIn has_parts (atomic a) = (has_parts ≡ true) × MayAskIn has_parts a
+MayAskIn has_parts (conditional c a b) =
+    (has_parts ≡ true) × (MayAskIn has_parts c × (MayAskIn has_parts a × MayAskIn has_parts b))
 
 -- how one node is emitted that continues at one state, or at two
 abbrev pub Emitter : Type 0
@@ -170,6 +174,13 @@ emitted_both_asking same moved states =
     let one = push states same in
     (push one moved, length states, length one)
 
+-- two states, and the choice between them, which prefers the first
+unfoldable pub emitted_choice : State → State → List State → List State × ℕ
+emitted_choice first second states =
+    let one = push states first in
+    let two = push one second in
+    (push two (Split (length states) (length one)), length two)
+
 -- The states so far, then those of a tree that goes on at two places: `same` where it moved nothing, `moved` where it did.
 -- The two numbers are the entries where nothing was moved yet, and where something was.
 unfoldable pub emitted_both : Re → List State → ℕ → ℕ → List State × ℕ × ℕ
@@ -195,6 +206,13 @@ emitted_both (ask negated a) states same moved =
 emitted_both (atomic a) states same moved =
     let part = emitted_both_part (emitted_both a) states in
     emitted_both_asking (Atomic part.1 same moved) (Atomic part.1 moved moved) part.0
+emitted_both (conditional c a b) states same moved =
+    let right = emitted_both b states same moved in
+    let left = emitted_both a right.0 same moved in
+    let part = emitted_both_part (emitted_both c) left.0 in
+    let first = emitted_choice (Atomic part.1 left.1 left.2) (Ask part.1 true right.1) part.0 in
+    let second = emitted_choice (Atomic part.1 left.2 left.2) (Ask part.1 true right.2) first.0 in
+    (second.0, first.1, second.1)
 
 -- the states so far, then those of a tree that goes on at `next`; the number is the entry
 unfoldable pub emitted : Re → List State → ℕ → List State × ℕ
@@ -219,6 +237,11 @@ emitted (ask negated a) states next =
 emitted (atomic a) states next =
     let part = emitted_part (emitted a) states in
     (push part.0 (Atomic part.1 next next), length part.0)
+emitted (conditional c a b) states next =
+    let right = emitted b states next in
+    let left = emitted a right.0 next in
+    let part = emitted_part (emitted c) left.0 in
+    emitted_choice (Atomic part.1 left.1 left.1) (Ask part.1 true right.1) part.0
 
 -- one branch in front of those that are there
 unfoldable pub with_branch : Re → ℕ → List State × ℕ → List State × ℕ
@@ -257,6 +280,7 @@ weight (group g a) = weight a + 2
 weight (repeat lo hi greedy strict a) = repeat_weight (is_unbounded hi) strict lo hi (weight a)
 weight (ask negated a) = weight a + 2
 weight (atomic a) = weight a + 2
+weight (conditional c a b) = weight c + weight a + weight b + 4
 
 module _ (view : View) (stop : ℕ) where
   -- all states do, but for the open ones

@@ -19,6 +19,8 @@ pub data Re : Type 0 where
   ask : Bool → Re → Re
   -- the first way of the body alone
   atomic : Re → Re
+  -- from the first way of the condition the second; where the condition has no way, the third
+  conditional : Re → Re → Re → Re
 
 -- one after another
 abbrev pub cats : List Re → Re
@@ -41,6 +43,7 @@ node_shape (Node-F.Group number body) = group number body.value
 node_shape (Node-F.Repeat body q) = repeat q.lo q.hi q.greedy q.moves body.value
 node_shape (Node-F.Ask negated body) = ask negated body.value
 node_shape (Node-F.Atomic body) = atomic body.value
+node_shape (Node-F.Conditional condition true_branch false_branch) = conditional condition.value true_branch.value false_branch.value
 
 abbrev pub shape : Node → Re
 shape = fold-Node Re node_shape

@@ -54,6 +54,13 @@ CountsPass old new start stop (P.Unknown from read) = new ≡ old
 abbrev pub FailBetween : SearchContext → List ℕ → (ℕ → Continuation) → ℕ → ℕ → Type 0
 FailBetween context text go low high = (p : ℕ) → low ≤ p → p < high → IsCharBoundary text p → (go context.entry p).answer ≡ None
 
+-- the first boundary after this place
+pub record IsBoundaryAfter (text : List ℕ) (at next : ℕ) : Type 0 where
+  pub low : at < next
+  pub high : next ≤ length text
+  pub boundary : IsCharBoundary text next
+  pub alone : (p : ℕ) → at < p → p < next → IsCharBoundary text p → ⊥
+
 -- a search is about to settle this start
 pub record IsAtStart (context : SearchContext) (text : List ℕ) (anchored : Bool) (place : Start) (memory : SearchMemory) : Type 0 where
   pub inside : context.stop ≤ length text
@@ -124,7 +131,7 @@ TriedSays context text memory new_memory from last view go (Some span) =
     × (end_spot (Some span.1) new_memory.backtrack.slots.items ≡ trace_end memory.backtrack.slots.items (go context.entry span.0).answer)
 
 pub record IsTried (context : SearchContext) (text : List ℕ) (memory new_memory : SearchMemory) (from last : ℕ) (span : Option (ℕ × ℕ)) : Type 0 where
-  pub range : IfSome span (λ s. (from ≤ s.0) × (s.0 ≤ last))
+  pub range : IfSome span (λ s. (from ≤ s.0) × (s.0 ≤ last) × IsCharBoundary text s.0)
   pub says : (view : View) (go : ℕ → Continuation) → Explains context text view go → AllFail view.longest go (Has memory.visited)
       → TriedSays context text memory new_memory from last view go span
   pub empty : span ≡ None → vec_len new_memory.backtrack.stack ≡ 0

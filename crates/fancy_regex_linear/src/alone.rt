@@ -4,7 +4,6 @@ ghost use Rattle.std.specs.Prelude.{◌≡◌, ◌<◌, ◌≤◌, length, IfSom
 ghost use Rattle.std.specs.Char.{len_utf8};
 ghost use Rattle.regex_hir.specs.Text.{char_at};
 ghost use Rattle.fancy_regex_class.specs.Looks.{looked_text};
-ghost use Rattle.fancy_regex_table.specs.Tables.{AreBoundaries};
 ghost use Rattle.fancy_regex_linear.specs.Alone.{AllFailBetween, AloneSays, IsUnknown, IsPassedTo};
 ghost use Rattle.fancy_regex_linear.specs.Layers.{IsSearchContext};
 ghost use Rattle.fancy_regex_linear.specs.Settled.{IsTableSearch};
@@ -103,9 +102,6 @@ pub fn by_starts_alone(
         let Some((start, after)) = pass_over(context, text, it, at) else {
             return Alone::NoMatch;
         };
-        if !is_ascii(after) {
-            return unknown(context, (start, after), start, start);
-        }
         match pass_counted(context, text, it, start) {
             Passed::Match {
                 start: first,
@@ -116,14 +112,5 @@ pub fn by_starts_alone(
             Passed::Idle { at: next } => at = next,
             Passed::Unknown { from, read } => return unknown(context, (start, after), from, read),
         }
-    }
-}
-
-/// Whether an ASCII character stands here.
-#[inline(always)]
-pub fn is_ascii(c: Option<char>) -> bool {
-    match c {
-        Some(c) => (c as u32) < 128,
-        None => false,
     }
 }

@@ -7,7 +7,7 @@ ghost use Rattle.fancy_regex_linear.specs.Layers.{IsSearchContext};
 ghost use Rattle.fancy_regex_linear.specs.Before.{IsBeforeOf};
 ghost use Rattle.fancy_regex_linear.specs.Settled.{IsTableSearch};
 
-use crate::alone::{Alone, is_ascii, unknown};
+use crate::alone::{Alone, unknown};
 use crate::by_table::{TableSearch, pass_counted};
 use crate::passing::Passing;
 use crate::search::SearchContext;
@@ -62,9 +62,6 @@ pub fn by_before_alone(
     let mut at = from;
     'starts: loop {
         let (start, after) = pass_before(context, text, it, before, at);
-        if !is_ascii(after) {
-            return unknown(context, (start, after), start, start);
-        }
         match pass_counted(context, text, it, start) {
             Passed::Match {
                 start: first,

@@ -1,6 +1,6 @@
 //! Translation of an easy syntax tree to nodes and class matchers.
 
-ghost use Rattle.std.specs.Prelude.{◌≡◌, ◌+◌, true, false, ◌++◌, ◌∷◌, [], ℕ, Bool, List, None, length, not, All, OnOk, IfOk, IfErr, IfSome, chars, string_bytes, slice_index, if◌then◌else◌};
+ghost use Rattle.std.specs.Prelude.{◌≡◌, ◌+◌, ◌&&◌, ◌||◌, true, false, ◌++◌, ◌∷◌, [], ℕ, Bool, List, None, length, not, All, OnOk, IfOk, IfErr, IfSome, chars, string_bytes, slice_index, if◌then◌else◌};
 ghost use Rattle.fancy_regex_tree.specs.Tree.{Tree, tree_of, look_around};
 ghost use Rattle.fancy_regex_meaning.specs.Groups.{group_count, row_group_count};
 ghost use Rattle.fancy_regex_class.specs.Classes.{folded};
@@ -17,7 +17,7 @@ ghost use Rattle.fancy_regex_class.specs.Matchers.{IsMatcherOf};
 
 use crate::node::{Node, Quantifier};
 use fancy_regex_class::{CharClassMatcher, ClassError, fold};
-use fancy_regex_info::CompileError;
+use fancy_regex_info::{CompileError, groups_of};
 use fancy_regex_states::{Leaf, Test};
 use fancy_regex_tree::{Assertion, BacktrackingControlVerb, Expr, LookAround};
 use std::alloc::{AllocError, Global};
@@ -347,6 +347,21 @@ impl Translator {
             } => self.repeat(child, *lo, *hi, *greedy),
             Expr::LookAround(child, look) => self.look_around(child, *look),
             Expr::AtomicGroup(child) => self.atomic(child),
+            Expr::Conditional {
+                condition,
+                true_branch,
+                false_branch,
+            } => {
+                let asked = self.translated(condition)?;
+                let first = self.translated(true_branch)?;
+                let second = self.translated(false_branch)?;
+                let made = conditional_of(self.alloc, asked, first, second)?;
+                Ok(made)
+            }
+            Expr::DefineGroup { definitions } => {
+                self.skip_groups(definitions)?;
+                Ok(Translated::still(Node::Empty))
+            }
             Expr::BacktrackingControlVerb(_) => Ok(Translated::still(Node::Look(Test::Never))),
             _ => Ok(Translated::still(Node::Empty)),
         }
@@ -587,17 +602,48 @@ impl Translator {
     fn skip_groups(&mut self, child: &Expr) -> Result<(), CompileError>
         ensures unicode { self.new.unicode ≡ self.old.unicode }
         ensures matchers { self.new.matchers ≡ self.old.matchers }
-        ensures groups { IfOk result (λ _. IsRegular (tree_of child.now)
-            → self.new.next_group ≡ self.old.next_group + group_count (tree_of child.now)) }
+        ensures groups { IfOk result (λ _. self.new.next_group ≡ self.old.next_group + group_count (tree_of child.now)) }
         ensures refused { IfErr result (λ error. error ≡ errors.Memory) }
     {
-        let skipped = groups_in(child).ok_or(CompileError::Memory)?;
+        let skipped = groups_in(self.alloc, child)?;
         self.next_group = self
             .next_group
             .checked_add(skipped)
             .ok_or(CompileError::Memory)?;
         Ok(())
     }
+}
+
+/// Whether a conditional always consumes a character, where its condition and its branches do or do not.
+fn conditional_moves(condition: bool, first: bool, second: bool) -> bool
+    ensures { result ≡ ((condition || first) && second) }
+{
+    (condition || first) && second
+}
+
+/// A conditional of these. The error is want of memory.
+fn conditional_of(
+    alloc: Global,
+    condition: Translated,
+    first: Translated,
+    second: Translated,
+) -> Result<Translated, AllocError>
+    ensures shape { IfOk result (λ made. shape made.node
+        ≡ re.conditional (shape condition.node) (shape first.node) (shape second.node)) }
+    ensures moves { IfOk result (λ made. made.moves ≡ ((condition.moves || first.moves) && second.moves)) }
+{
+    let moves = conditional_moves(condition.moves, first.moves, second.moves);
+    let one = boxed(alloc, condition.node)?;
+    let two = boxed(alloc, first.node)?;
+    let three = boxed(alloc, second.node)?;
+    Ok(Translated {
+        node: Node::Conditional {
+            condition: one,
+            true_branch: two,
+            false_branch: three,
+        },
+        moves,
+    })
 }
 
 /// Whether a quantifier with these counts repeats its body zero times.
@@ -650,6 +696,12 @@ pub fn is_regular(expr: &Expr) -> bool
         Expr::Alt(children) => !children.is_empty() && are_regular(children),
         Expr::BacktrackingControlVerb(BacktrackingControlVerb::Fail) => true,
         Expr::Group(child) | Expr::AtomicGroup(child) => is_regular(child),
+        Expr::Conditional {
+            condition,
+            true_branch,
+            false_branch,
+        } => is_regular(condition) && is_regular(true_branch) && is_regular(false_branch),
+        Expr::DefineGroup { .. } => true,
         Expr::Repeat { child, .. } => is_regular(child),
         Expr::LookAround(child, LookAround::LookAhead | LookAround::LookAheadNeg) => {
             is_regular(child)
@@ -687,30 +739,10 @@ fn is_one_char(expr: &Expr) -> bool
     }
 }
 
-/// The number of capture groups in a tree, or `None` if it exceeds `usize`.
-#[cycle(count)]
-#[tactic(auto, unfolding(fancy_regex_meaning::specs::Groups::group_count))]
-fn groups_in(expr: &Expr) -> Option<usize>
-    ensures { IfSome result (λ n. IsRegular (tree_of expr.now) → n ≡ group_count (tree_of expr.now)) }
+/// The number of capture groups in a tree. The error is want of memory.
+fn groups_in(alloc: Global, expr: &Expr) -> Result<usize, AllocError>
+    ensures { IfOk result (λ n. n ≡ group_count (tree_of expr.now)) }
 {
-    match expr {
-        Expr::Group(child) => groups_in(child)?.checked_add(1),
-        Expr::Repeat { child, .. } | Expr::LookAround(child, _) | Expr::AtomicGroup(child) => {
-            groups_in(child)
-        }
-        Expr::Concat(children) | Expr::Alt(children) => groups_in_row(children),
-        _ => Some(0),
-    }
-}
-
-/// The number of capture groups in all these trees, or `None` if it exceeds `usize`.
-#[cycle(count)]
-fn groups_in_row(children: &[Expr]) -> Option<usize>
-    ensures { IfSome result (λ n. AreRegular (all_trees children.now) → n ≡ row_group_count (all_trees children.now)) }
-{
-    let mut sum = 0usize;
-    for i in 0..children.len() {
-        sum = sum.checked_add(groups_in(&children[i])?)?;
-    }
-    Some(sum)
+    let groups = groups_of(alloc, expr, true)?;
+    Ok(groups.len())
 }

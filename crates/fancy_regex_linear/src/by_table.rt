@@ -1,16 +1,16 @@
 //! Starts that are settled by the table of the pattern, which goes through the text once.
 
-ghost use Rattle.std.specs.Prelude.{◌≡◌, ◌-◌, ◌+◌, ◌<◌, ◌≤◌, ◌^◌, ℕ, Bool, false, Option, Some, None, length, min, IfOk, OnOk, IfSome, IsCharBoundary};
+ghost use Rattle.std.specs.Prelude.{◌≡◌, ◌-◌, ◌+◌, ◌<◌, ◌≤◌, ◌^◌, ℕ, Bool, false, true, Option, Some, None, length, min, IfOk, OnOk, IfSome, IsCharBoundary};
 ghost use Rattle.std.specs.Char.{len_utf8};
 ghost use Rattle.regex_hir.specs.Text.{char_at, char_before as char_before_of};
 ghost use Rattle.fancy_regex_class.specs.Looks.{looked_text, look_count, SameCounter};
 ghost use Rattle.fancy_regex_states.specs.Attempts.{View, Continuation};
 ghost use Rattle.fancy_regex_states.specs.declared.rules.Rules.{Rules};
 ghost use Rattle.fancy_regex_table.specs.Cells.{Parts, Search};
-ghost use Rattle.fancy_regex_table.specs.Tables.{AreBoundaries, IsInRange, IsPassed, IsSearchOf, IsTable};
+ghost use Rattle.fancy_regex_table.specs.Tables.{IsInRange, IsPassed, IsSearchOf, IsTable};
 ghost use Rattle.fancy_regex_linear.specs.Layers.{IsSearchContext, IsBetweenAttempts, IsAttempt};
 ghost use Rattle.fancy_regex_linear.specs.Search.{Explains};
-ghost use Rattle.fancy_regex_linear.specs.Settled.{IsAtStart, IsLoaded, IsSettled, IsSettledAfter, IsSettling, IsTableSearch, IsTried, CountsPass, FailBetween};
+ghost use Rattle.fancy_regex_linear.specs.Settled.{IsAtStart, IsBoundaryAfter, IsLoaded, IsSettled, IsSettledAfter, IsSettling, IsTableSearch, IsTried, CountsPass, FailBetween};
 
 use crate::memory::SearchMemory;
 use crate::passing::Passing;
@@ -86,7 +86,7 @@ pub fn by_table(
     let Some(it) = mode.table else {
         return Ok(None);
     };
-    if mode.anchored || !is_ascii(place.after) {
+    if mode.anchored {
         return Ok(None);
     }
     match pass_counted(context, text, it, place.at) {
@@ -100,18 +100,9 @@ pub fn by_table(
             if read == place.at {
                 return Ok(None);
             }
-            let settled = by_attempts(context, text, place, from, read, memory)?;
+            let settled = by_attempts(context, text, it.text, place, from, read, memory)?;
             Ok(Some(settled))
         }
-    }
-}
-
-/// Whether an ASCII character stands here.
-#[inline(always)]
-fn is_ascii(c: Option<char>) -> bool {
-    match c {
-        Some(c) => (c as u32) < 128,
-        None => false,
     }
 }
 
@@ -143,6 +134,7 @@ fn load_match(
 pub fn by_attempts(
     context: &SearchContext,
     text: &mut Counted,
+    shown: &str,
     place: Start,
     from: usize,
     read: usize,
@@ -151,14 +143,15 @@ pub fn by_attempts(
     requires context { IsSearchContext context.now }
     requires start { IsAtStart context.now (looked_text text.old) false place memory.old }
     requires range { (place.at ≤ from) × (from ≤ read) × (place.at < read) × (read ≤ context.now.stop) }
-    requires boundaries { AreBoundaries (looked_text text.old) place.at read }
+    requires shown { shown.now ≡ looked_text text.old }
+    requires boundaries { IsCharBoundary shown.now from × IsCharBoundary shown.now read }
     ensures settled { IfOk result (λ settled. (span_only : Bool) → IsSettledAfter context.now (looked_text text.old) (look_count text.old)
         (look_count text.new) span_only place from memory.old memory.new settled) }
     ensures settling { IsSettling context.now text.old text.new place memory.old memory.new }
 {
     let after = end_pass(text, place.at, read);
     let next = start_after(read, after, false, context.stop);
-    match first_tried(context, text, from, read, memory)? {
+    match first_tried(context, text, shown, from, read, memory)? {
         Some((start, end)) => Ok(Settled::Found { start, end }),
         None => Ok(Settled::On { next }),
     }
@@ -181,18 +174,20 @@ fn end_pass(text: &mut Counted, start: usize, read: usize) -> Option<char>
     after
 }
 
-/// The first start from `from` up to `last` that matches, and where the match ends, with its slots in the memory. The starts are a
-/// byte apart. The error is want of memory.
+/// The first start from `from` up to `last` that matches, and where the match ends, with its slots in the memory. The error is want of
+/// memory.
 fn first_tried(
     context: &SearchContext,
     text: &mut Counted,
+    shown: &str,
     from: usize,
     last: usize,
     memory: &mut SearchMemory,
 ) -> Result<Option<(usize, usize)>, AllocError>
     requires context { IsSearchContext context.now }
     requires range { (memory.old.visited.base ≤ from) × (from ≤ last) × (last ≤ context.now.stop) }
-    requires boundaries { AreBoundaries (looked_text text.old) from last }
+    requires shown { shown.now ≡ looked_text text.old }
+    requires boundaries { IsCharBoundary shown.now from × IsCharBoundary shown.now last }
     requires between { IsBetweenAttempts context.now memory.old }
     ensures tried { IfOk result (IsTried context.now (looked_text text.old) memory.old memory.new from last) }
     ensures attempt { IsAttempt context.now text.old text.new memory.old memory.new last }
@@ -205,8 +200,30 @@ fn first_tried(
         if start >= last {
             return Ok(None);
         }
-        start += 1;
+        start = boundary_after(shown, start);
     }
+}
+
+/// The first byte offset after `at` at which a character begins, or the end of the text.
+fn boundary_after(text: &str, at: usize) -> usize
+    requires { at < length text.now }
+    ensures { IsBoundaryAfter text.now at result }
+{
+    let bytes = text.as_bytes();
+    let mut next = at + 1;
+    'bytes: while next < bytes.len() && is_continuation(bytes[next]) {
+        next += 1;
+    }
+    next
+}
+
+/// Whether no character begins with the byte.
+#[inline(always)]
+fn is_continuation(byte: u8) -> bool
+    ensures yes { result ≡ true → (128 ≤ byte) × (byte < 192) }
+    ensures no { result ≡ false → 128 ≤ byte → 192 ≤ byte }
+{
+    byte >= 128 && byte < 192
 }
 
 /// The character that ends at the byte offset `position`. An ASCII character is read as one byte.

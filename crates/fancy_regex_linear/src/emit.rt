@@ -7,7 +7,7 @@ ghost use Rattle.fancy_regex_linear.specs.Meaning.{is_unbounded};
 
 use crate::emit_both::emit_both;
 use crate::node::{Node, Quantifier};
-use crate::state::{add, make_head};
+use crate::state::{add, add_choice, make_head};
 use fancy_regex_states::State;
 use std::alloc::AllocError;
 
@@ -61,6 +61,28 @@ pub fn emit(node: &Node, states: &mut Vec<State>, next: usize) -> Result<usize, 
                     part,
                     same: next,
                     moved: next,
+                },
+            )
+        }
+        Node::Conditional {
+            condition,
+            true_branch,
+            false_branch,
+        } => {
+            let second = emit(false_branch, states, next)?;
+            let first = emit(true_branch, states, next)?;
+            let part = emit_part(condition, states)?;
+            add_choice(
+                states,
+                State::Atomic {
+                    part,
+                    same: first,
+                    moved: first,
+                },
+                State::Ask {
+                    part,
+                    negated: true,
+                    next: second,
                 },
             )
         }

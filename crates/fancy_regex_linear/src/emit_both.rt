@@ -7,7 +7,7 @@ ghost use Rattle.fancy_regex_linear.specs.Program.{emitted_both, emitted_both_pa
 ghost use Rattle.fancy_regex_linear.specs.Meaning.{is_unbounded};
 
 use crate::node::{Node, Quantifier};
-use crate::state::{add, add_both, make_head};
+use crate::state::{add, add_both, add_choice, make_head};
 use fancy_regex_states::State;
 use std::alloc::AllocError;
 
@@ -84,6 +84,42 @@ pub fn emit_both(
                     moved,
                 },
             )
+        }
+        Node::Conditional {
+            condition,
+            true_branch,
+            false_branch,
+        } => {
+            let second = emit_both(false_branch, states, same, moved)?;
+            let first = emit_both(true_branch, states, same, moved)?;
+            let part = emit_part_both(condition, states)?;
+            let head = add_choice(
+                states,
+                State::Atomic {
+                    part,
+                    same: first.0,
+                    moved: first.1,
+                },
+                State::Ask {
+                    part,
+                    negated: true,
+                    next: second.0,
+                },
+            )?;
+            let moved_head = add_choice(
+                states,
+                State::Atomic {
+                    part,
+                    same: first.1,
+                    moved: first.1,
+                },
+                State::Ask {
+                    part,
+                    negated: true,
+                    next: second.1,
+                },
+            )?;
+            Ok((head, moved_head))
         }
     }
 }

@@ -129,7 +129,7 @@ fn from_unknown(
     ensures same_counter { SameCounter text.old text.new }
 {
     memory.restart(context.states.len(), unknown.place.at, groups)?;
-    match settle_unknown(context, text, unknown, memory)? {
+    match settle_unknown(context, text, it.text, unknown, memory)? {
         Settled::Found { start, end } => Ok(Some((start, end))),
         Settled::On { next: None } => Ok(None),
         Settled::On { next: Some(next) } => {
@@ -148,11 +148,13 @@ fn from_unknown(
 fn settle_unknown(
     context: &SearchContext,
     text: &mut Counted,
+    shown: &str,
     unknown: &UnknownStart,
     memory: &mut SearchMemory,
 ) -> Result<Settled, AllocError>
     requires context { IsSearchContext context.now }
     requires start { IsAtStart context.now (looked_text text.old) false unknown.now.place memory.old }
+    requires shown { shown.now ≡ looked_text text.old }
     requires unknown { IsUnknownAt context.now (looked_text text.old) unknown.now.place unknown.now.from unknown.now.read }
     ensures settled { IfOk result (IsSettledAfter context.now (looked_text text.old) (look_count text.old) (look_count text.new)
         true unknown.now.place unknown.now.from memory.old memory.new) }
@@ -163,6 +165,14 @@ fn settle_unknown(
         let settled = by_attempt(context, text, place, false, memory)?;
         return Ok(settled);
     }
-    let settled = by_attempts(context, text, place, unknown.from, unknown.read, memory)?;
+    let settled = by_attempts(
+        context,
+        text,
+        shown,
+        place,
+        unknown.from,
+        unknown.read,
+        memory,
+    )?;
     Ok(settled)
 }

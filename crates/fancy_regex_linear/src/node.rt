@@ -46,4 +46,10 @@ pub enum Node {
     },
     /// The first match of the body alone.
     Atomic(Box<Node>),
+    /// A conditional: where the condition matches here, its first match and then the one branch, else the other.
+    Conditional {
+        condition: Box<Node>,
+        true_branch: Box<Node>,
+        false_branch: Box<Node>,
+    },
 }

@@ -1,7 +1,7 @@
 //! Adding states to those of a pattern.
 
 ghost use Rattle.std.specs.Prelude.{◌≡◌, ◌≤◌, IfOk, length, vec_len};
-ghost use Rattle.fancy_regex_linear.specs.Program.{loop_head, push};
+ghost use Rattle.fancy_regex_linear.specs.Program.{loop_head, push, emitted_choice};
 
 use fancy_regex_states::State;
 use std::alloc::AllocError;
@@ -47,4 +47,20 @@ pub fn add_both(
     let first = add(states, one)?;
     let second = add(states, two)?;
     Ok((first, second))
+}
+
+/// Adds two states and a choice between them, which prefers the first; returns its number. The error is want of memory.
+#[tactic(auto, unfolding(crate::specs::Program::emitted_choice))]
+pub fn add_choice(states: &mut Vec<State>, first: State, second: State) -> Result<usize, AllocError>
+    ensures longer { IfOk result (λ _. vec_len states.old ≤ vec_len states.new) }
+    ensures made { IfOk result (λ n. emitted_choice first second states.old.items ≡ (states.new.items, n)) }
+{
+    let (one, two) = add_both(states, first, second)?;
+    add(
+        states,
+        State::Split {
+            first: one,
+            second: two,
+        },
+    )
 }

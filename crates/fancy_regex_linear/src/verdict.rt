@@ -55,13 +55,6 @@ fn pass_starts(
     Some(skip_pairs(context, text, it, at, second).0)
 }
 
-/// Whether a character that is not ASCII stands at the byte offset `at`: the table does not know it.
-#[inline(always)]
-fn is_wide(text: &str, at: usize) -> bool {
-    let bytes = text.as_bytes();
-    at < bytes.len() && bytes[at] >= 128
-}
-
 /// What the table tells of the matches from the byte offset `from` on.
 pub fn table_verdict(
     context: &SearchContext,
@@ -82,9 +75,6 @@ pub fn table_verdict(
         let Some(start) = pass_starts(context, text, it, at) else {
             return Verdict::NoMatch;
         };
-        if is_wide(it.text, start) {
-            return Verdict::NoneBefore { at: start };
-        }
         let before = char_before(it.text, start);
         match it.table.sign(context.matchers, it.text, start, before) {
             Sign::Match => return Verdict::Match,

@@ -17,13 +17,29 @@ pub struct RunMemory {
     pub(crate) delegates: Delegates,
 }
 
-/// What the searches of delegated parts need, and how often those of a run have looked at the text.
+/// What the searches of delegated parts need, and how often a run has looked at the text where it does not count that itself.
 #[derive(Drop)]
 pub(crate) struct Delegates {
-    /// Their memory.
+    /// The memory of these searches.
     pub memory: SearchMemory,
     /// Their looks.
     pub steps: Steps,
+    /// The bytes of newlines that `\Z` has read.
+    pub newlines: u64,
+}
+
+impl Delegates {
+    /// Begins to count anew.
+    pub fn count_anew(&mut self) {
+        self.steps = Steps::new();
+        self.newlines = 0;
+    }
+
+    /// The looks of delegated parts and of `\Z` since then.
+    #[inline(always)]
+    pub fn looks(&self) -> u64 {
+        self.steps.count().saturating_add(self.newlines)
+    }
 }
 
 // Written, not derived: so a crate in which such a value may be dropped uses this proof, and has none to make of each type inside.
@@ -47,7 +63,13 @@ impl RunMemory {
             delegates: Delegates {
                 memory: SearchMemory::new(alloc),
                 steps: Steps::new(),
+                newlines: 0,
             },
         }
+    }
+
+    /// How often the delegated parts of the last run have looked at the text, and how many newlines `\Z` has read. No clause says so.
+    pub fn looks(&self) -> u64 {
+        self.delegates.looks()
     }
 }

@@ -3,12 +3,12 @@
 ghost use Rattle.std.specs.Prelude.{IsTrue};
 ghost use Rattle.fancy_regex_machine.specs.Allowances.{IsBounded};
 
-use fancy_regex_class::Steps;
+use crate::memory::Delegates;
 use fancy_regex_prefilter::cursor::Cursor;
 
 /// How much work a run may do. Each time that the run goes back counts one, and one more for each byte that it goes back by, since it reads
-/// a byte again only after it has gone back over it. Each look of a delegated part at the text counts one. That is what the code counts;
-/// no clause speaks of it.
+/// a byte again only after it has gone back over it. Each look of a delegated part at the text counts one, and each byte of the newlines
+/// that `\Z` reads. That is what the code counts; no clause speaks of it.
 #[derive(Clone, Copy, Debug)]
 pub enum Allowance {
     /// As much as it takes.
@@ -43,7 +43,7 @@ pub(crate) struct Work {
     per_byte: u64,
     /// The last start so far, a byte offset.
     start: usize,
-    /// The looks of delegated parts so far.
+    /// The looks of delegated parts and of `\Z` so far.
     looks: u64,
 }
 
@@ -70,21 +70,21 @@ impl Work {
 
     /// Counts a step, from the byte offset `before` to the cursor, if it led back.
     #[inline(always)]
-    pub fn step(&mut self, before: usize, cursor: &Cursor, looks: &Steps) {
+    pub fn step(&mut self, before: usize, cursor: &Cursor, delegates: &Delegates) {
         if cursor.position < before {
-            self.go_back(before, cursor, looks);
+            self.go_back(before, cursor, delegates);
         }
     }
 
-    /// Counts that the run has gone back from the byte offset `reached` to the cursor, and the looks that delegated parts have made since
-    /// it was asked last.
+    /// Counts that the run has gone back from the byte offset `reached` to the cursor, and the looks that delegated parts and `\Z` have
+    /// made since it was asked last.
     #[inline(always)]
-    pub fn go_back(&mut self, reached: usize, cursor: &Cursor, looks: &Steps) {
+    pub fn go_back(&mut self, reached: usize, cursor: &Cursor, delegates: &Delegates) {
         if cursor.pc == 0 {
             self.go_on(cursor.position);
         }
         let distance = reached.saturating_sub(cursor.position) as u64;
-        let looks = looks.count();
+        let looks = delegates.looks();
         let work = distance
             .saturating_add(1)
             .saturating_add(looks.saturating_sub(self.looks));

@@ -1,5 +1,5 @@
 -- A class of a tree for which there is no matcher is one that is written out, so the compiler may refuse the tree for it.
-use Rattle.std.proofs.Common.{◌≡◌, ◌∙◌, ℕ, zero, suc, ◌<◌, ◌⊎◌, ⊎_elim, Bool, true, false, not, cond, true≢false, List, [], ◌∷◌, length, refl, sym, ap, subst, arith}
+use Rattle.std.proofs.Common.{◌≡◌, ◌∙◌, ℕ, zero, suc, ◌<◌, ◌⊎◌, ⊎_elim, Bool, true, false, not, cond, true≢false, List, [], ◌∷◌, ◌++◌, length, refl, sym, ap, subst, arith}
 use Rattle.std.specs.Prelude.{◌==◌, ◌&&◌, ◌||◌, nat_lt, bytes_eq}
 use Rattle.std.specs.List.{Contains}
 use Rattle.std.proofs.lemmas.Bool.Decides.{nat_tests}
@@ -84,6 +84,18 @@ module _ (groups : List Tree) (root : Tree) (c : Text × Bool) where
     written i (tree.look_around t how) w ok m =
         written (in_look_around i) t (child i (tree.look_around t how) t w refl (here t [])) ok m
     written i (tree.atomic_group t) w ok m = written i t (child i (tree.atomic_group t) t w refl (here t [])) ok m
+    written i (tree.conditional t a b) w ok m =
+        let fine = neither (some_node wrong t) (some_node wrong a || some_node wrong b) ok in
+        let rest = neither (some_node wrong a) (some_node wrong b) fine.1 in
+        let root_of : (u : Tree) → Contains (t ∷ a ∷ b ∷ []) u → IsEmitted groups root i u = λ u e. child i (tree.conditional t a b) u w refl e in
+        ⊎_elim
+        (λ (h : Contains (classes t) c). written i t (root_of t (here t (a ∷ b ∷ []))) fine.0 h)
+        (λ (h : Contains (classes a ++ classes b) c).
+        ⊎_elim
+        (λ (l : Contains (classes a) c). written i a (root_of a (there t (a ∷ b ∷ []) a (here a (b ∷ [])))) rest.0 l)
+        (λ (r : Contains (classes b) c). written i b (root_of b (there t (a ∷ b ∷ []) b (there a (b ∷ []) b (here b [])))) rest.1 r)
+        (Contains-append_cases (classes a) (classes b) c h))
+        (Contains-append_cases (classes t) (classes a ++ classes b) c m)
     written i (tree.repeat t lo hi greedy) w ok m =
         let fine = neither (nat_lt hi lo) (some_node wrong t) ok in
         let some = in_iterations (has_no_iteration lo hi) (classes t) c m in

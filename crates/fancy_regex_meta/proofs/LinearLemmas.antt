@@ -4,7 +4,7 @@ use mathlib.Core.Logic.{∥∥₁_elim}
 use Rattle.std.proofs.Common.{◌≡◌, ◌⊎◌, ◌↔◌, ◌∙◌, ⊎_elim, inl, inr, Bool, true, false, true≢false, List, ℕ, refl, sym, ap, subst}
 use Rattle.std.proofs.Math.Bool.{Bool-set}
 use Rattle.std.proofs.Math.Bridge.{le_prop}
-use Rattle.fancy_regex_tree.specs.Tree.{Tree, Trees, tree_of, empty, any, assertion, general_newline, literal, concat, alt, group, look_around, repeat, delegate, atomic_group, verb, no_trees, more_trees}
+use Rattle.fancy_regex_tree.specs.Tree.{Tree, Trees, tree_of, empty, any, assertion, general_newline, literal, concat, alt, group, look_around, repeat, delegate, atomic_group, conditional, verb, define_group, no_trees, more_trees}
 use Rattle.fancy_regex_tree.specs.declared.expr.BacktrackingControlVerb.{BacktrackingControlVerb}
 use Rattle.fancy_regex_tree.specs.declared.expr.BacktrackingControlVerb.TheVariants.{Fail}
 use Rattle.fancy_regex_tree.specs.declared.expr.LookAround.TheVariants as L
@@ -53,6 +53,8 @@ mutual
   regular_prop (look_around t L.LookBehind) = one_char_prop t
   regular_prop (look_around t L.LookBehindNeg) = one_char_prop t
   regular_prop (atomic_group t) = regular_prop t
+  regular_prop (conditional c a b) = ×_prop (regular_prop c) (×_prop (regular_prop a) (regular_prop b))
+  regular_prop (define_group t) = Unit-prop
   regular_prop (verb v) = fail_prop v
   regular_prop (repeat t lo hi greedy) = regular_prop t
   regular_prop _ = ⊥_prop

@@ -1,7 +1,6 @@
 //! How much work the runs of a program may do over the searches of one text, before states answer in its place. No clause speaks of it:
 //! both give the same match.
 
-use crate::found::MatchDetail;
 use fancy_regex_machine::Allowance;
 
 /// What the runs over a text may do at least.
@@ -53,10 +52,10 @@ impl RunWork {
     }
 
     /// Begins a search from this byte offset on. The first search of a text may do as much as all later ones have besides what they come
-    /// on by, and each one for groups too: states take longer to write them. A later search may first do as much as it has come on by, or
-    /// what the runs before it needed, if that is more.
+    /// on by, and so may each one that shares no work with others. A later search may first do as much as it has come on by, or what the
+    /// runs before it needed, if that is more.
     #[inline(always)]
-    pub(crate) fn begin(&mut self, text: &str, first: usize, wanted: MatchDetail) {
+    pub(crate) fn begin(&mut self, text: &str, first: usize, shares: bool) {
         let rest = text.len().saturating_sub(first) as u64;
         let whole = FIRST_WORK.saturating_add(rest.saturating_mul(WORK_PER_TEXT_BYTE));
         let distance = first.saturating_sub(self.place) as u64;
@@ -66,7 +65,7 @@ impl RunWork {
         } else {
             whole
         };
-        self.shared = self.begun && matches!(wanted, MatchDetail::Span);
+        self.shared = self.begun && shares;
         self.share = if self.shared {
             self.next_share.max(earned).min(self.left)
         } else {
@@ -91,11 +90,16 @@ impl RunWork {
         }
     }
 
-    /// Notes that a run has answered. The next search may first do a little less, so that one long look does not count for all that follow.
+    /// Notes that a run has answered: where its match starts, or else the end of the text, and how often its delegated parts have looked at
+    /// the text, since it may have gone back nowhere, and so was not exhausted, however often they did. The next search may first do a
+    /// little less, so that one long look does not count for all that follow.
     #[inline(always)]
-    pub(crate) fn answered(&mut self) {
+    pub(crate) fn answered(&mut self, start: usize, looks: u64) {
         if self.shared {
-            self.left = self.left.saturating_sub(self.share);
+            let distance = start.saturating_sub(self.place) as u64;
+            let looks = looks.saturating_sub(distance.saturating_mul(WORK_PER_START_BYTE));
+            self.spent = looks > self.left;
+            self.left = self.left.saturating_sub(self.share.max(looks));
             let less = self.next_share.saturating_sub(self.next_share / 8);
             self.next_share = less.max(LEAST_SHARE);
         }

@@ -242,6 +242,14 @@ fn run_program(
     }
 }
 
+/// Where the match of a run starts, or else the end of the text.
+fn start_of(ended: &std::result::Result<Option<FoundMatch>, RuntimeError>, text: &str) -> usize {
+    match ended {
+        Ok(Some(found)) => found.start,
+        Ok(None) | Err(_) => text.len(),
+    }
+}
+
 /// The first match by the program, as `run_program`, where each run may do more work than the one before, as long as work is left. No
 /// clause says how much that is. The errors inside are a limit, or `Memory`.
 #[inline(always)]
@@ -270,7 +278,7 @@ fn run_in_shares(
         };
         match run_program(alloc, &run, text, input, wanted, memory) {
             Ok(ended) => {
-                work.answered();
+                work.answered(start_of(&ended, text), memory.looks());
                 return Ok(ended);
             }
             Err(Exhausted) => {
@@ -281,6 +289,12 @@ fn run_in_shares(
         }
     }
     Err(Exhausted)
+}
+
+/// Whether a search shares the work that runs may do with the other searches of its text. One for groups does not where the walk of the
+/// states that writes them may go further than the match: that takes longer than a run.
+fn shares_work(regular: &Regular, wanted: MatchDetail) -> bool {
+    matches!(wanted, MatchDetail::Span) || !regular.asks_for_groups()
 }
 
 /// The first match of a pattern with states: by its program, as long as that stays within the work that it may do and meets no limit, and
@@ -307,7 +321,9 @@ fn search_by_either(
     ensures memory { IfErr result (λ e. e ≡ told.Memory) }
     ensures kept { IsKeptOf regular.now text.now memory.new.parts }
 {
-    memory.work.begin(text, input.first, wanted);
+    memory
+        .work
+        .begin(text, input.first, shares_work(regular, wanted));
     if !memory.work.is_spent() {
         let runs = &mut memory.program;
         let work = &mut memory.work;

@@ -25,7 +25,7 @@ EndsBetween low high None = Unit {0}
 EndsBetween low high (Some t) = (low ≤ t.end) × (t.end ≤ high) × AllBy high t.writes
 
 -- what holds of both holds of the better one
-either_has : (X : Option Trace → Type 0) (rank : Trace → ℕ) (a b : Option Trace) → X a → X b → X (better rank a b)
+pub either_has : (X : Option Trace → Type 0) (rank : Trace → ℕ) (a b : Option Trace) → X a → X b → X (better rank a b)
 either_has X rank None b x y = y
 either_has X rank (Some a) None x y = x
 either_has X rank (Some a) (Some b) x y = chosen (nat_lt (rank a) (rank b))
@@ -35,7 +35,7 @@ either_has X rank (Some a) (Some b) x y = chosen (nat_lt (rank a) (rank b))
     chosen false = x
 
 -- after a test
-guard_has : (X : Option Trace → Type 0) (b : Bool) (r : AttemptResult) (d : ℕ) → X None → (guard b r).depth ≤ d
+pub guard_has : (X : Option Trace → Type 0) (b : Bool) (r : AttemptResult) (d : ℕ) → X None → (guard b r).depth ≤ d
     → (b ≡ true → r.depth < d → X r.answer) → X (guard b r).answer
 guard_has X true r d none le h = h refl (omega arith)
 guard_has X false r d none le h = none
@@ -116,7 +116,7 @@ module _ (view : View) (len : ℕ) (go : ℕ → Continuation) (count d : ℕ)
   visit_between Match i names le deep = (omega arith, le, tt)
 
 module _ (view : View) (len stop : ℕ) (states : List State) (go : ℕ → Continuation) (does : DoWhat view len stop states go) where
-  own_has : (X : Option Trace → Type 0) (i : ℕ) → X None → X (accept i).answer → X (go 0 i).answer
+  pub own_has : (X : Option Trace → Type 0) (i : ℕ) → X None → X (accept i).answer → X (go 0 i).answer
   own_has X i none some = subst (λ (k : Continuation). X (k i).answer) (sym does.zero) (by_stop (nat_le i stop))
     where
       by_stop : (b : Bool) → X (if b then accept i else failed).answer

@@ -10,5 +10,6 @@ pub mod AskLemmas
 pub mod EmittedLemmas
 pub mod FindLemmas
 pub mod BetweenLemmas
+pub mod WriteLemmas
 pub mod FillLemmas
 pub mod WalkLemmas

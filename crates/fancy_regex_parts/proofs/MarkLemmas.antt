@@ -1,5 +1,5 @@
 -- Tables with a mark on each state are right.
-use Rattle.std.proofs.Common.{◌≡◌, ◌∙◌, ℕ, zero, suc, ◌+◌, ◌<◌, ◌≤◌, max, List, [], ◌∷◌, ◌++◌, length, replicate, get_or, Option, Some, None, refl, sym, ap, ap₂, subst, arith}
+use Rattle.std.proofs.Common.{◌≡◌, ◌∙◌, ℕ, zero, suc, ◌+◌, ◌<◌, ◌≤◌, max, List, [], ◌∷◌, ◌++◌, length, replicate, get_or, Option, Some, None, refl, sym, ap, ap₂, subst, arith, Bool, true≢false}
 use Rattle.std.specs.Prelude.{sum_by}
 use Rattle.std.proofs.lemmas.List.{length-replicate}
 use Rattle.std.proofs.lemmas.List.Sums.{sum_by-cons}
@@ -9,7 +9,7 @@ use Rattle.fancy_regex_states.specs.First.{state_at}
 use Rattle.fancy_regex_states.specs.declared.state.State.{State}
 use Rattle.fancy_regex_states.specs.declared.state.State.TheVariants.{Split, Enter, Leave, Ask, Atomic, Match}
 use Rattle.fancy_regex_states.specs.declared.state.State.TheVariants as S
-use Rattle.fancy_regex_parts.specs.Tables.{mark_of, cost_of, due, due_of, owed, table_weight, IsTable, AreClosed}
+use Rattle.fancy_regex_parts.specs.Tables.{may_write, mark_of, cost_of, due, due_of, owed, table_weight, IsTable, AreClosed}
 use Rattle.fancy_regex_parts.specs.declared.table.PartTable.{PartTable}
 
 -- a list by its elements, with one more
@@ -41,6 +41,7 @@ pub record IsAllMarked (table : PartTable) : Type 0 where
   pub heads : (k : ℕ) → k < length table.states.items → get_or table.heads.items k 0 ≡ k
   pub costs : table.costs.items ≡ replicate (length table.states.items) 1
   pub most : table.most ≡ 1
+  pub writes : table.writes.items ≡ []
 
 module _ (table : PartTable) (all : IsAllMarked table) where
   cost_is : (q : ℕ) → q < length table.states.items → cost_of table q ≡ 1
@@ -74,6 +75,7 @@ module _ (table : PartTable) (all : IsAllMarked table) where
               );
           cheap = omega (arith, cost, h);
           paid = omega (arith, cost, nothing_owed (state_at table.states.items q) (closed q h));
+          no_write = λ none. absurd (true≢false (sym (ap (λ (ws : List Bool). may_write ws q) all.writes) ∙ none));
         };
     light =
         let small : (k : ℕ) → cost_of table k ≤ 1 = λ k.

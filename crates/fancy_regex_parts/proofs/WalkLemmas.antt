@@ -270,6 +270,22 @@ module _ (go : ℕ → Continuation) where
         ];
       }
 
+  -- a way that writes nothing is passed over
+  pub wrote_none : (heads : List ℕ) (base : ℕ) (visited : Recall) (goal slots : List ℕ) (q i : ℕ) (rest : List WalkTask)
+      → trace_writes (go q i).answer ≡ [] → IsWalking go heads base visited goal slots (Follow q i ∷ rest)
+      → IsWalking go heads base visited goal slots rest
+  unfolding fill
+  wrote_none heads base visited goal slots q i rest none h =
+      let same : fill (trace_writes (go q i).answer) slots ≡ slots = ap (λ (ws : List (ℕ × ℕ)). fill ws slots) none in
+      record {
+        left = ap (fill (all_writes go rest)) (sym same) ∙ sym (fill_both (all_writes go rest) (trace_writes (go q i).answer) slots) ∙ h.left;
+        have_ways = h.have_ways.1;
+        done = λ k some. elim (h.done k some) [
+          | inl set ↦ done_now _ _ rest slots set
+          | inr later ↦ subst (AreDone go _ _ rest) same later.1
+        ];
+      }
+
   module _ (heads : List ℕ) (base : ℕ) (old new : Recall) (goal slots : List ℕ) (q i : ℕ) (rest : List WalkTask)
       (h : IsWalking go heads base old goal slots (Follow q i ∷ rest)) where
     -- the walk was there before

@@ -36,3 +36,8 @@ IsAfter text last at (Some next) = IsNext text last at next
 abbrev pub failed_starts : List ℕ → ℕ → ℕ → Option (ℕ × ℕ) → ℕ
 failed_starts text from last None = length (boundaries text from last)
 failed_starts text from last (Some (start, end)) = length (boundaries text from last) - length (boundaries text start last)
+
+-- how many byte offsets there are from the first start to the last that is asked, where this was found
+abbrev pub tried : ℕ → ℕ → Option (ℕ × ℕ) → ℕ
+tried from last None = last - from + 1
+tried from last (Some (start, end)) = start - from + 1

@@ -1,5 +1,5 @@
 -- A table of states with marks, and what a visit of each state costs.
-use Rattle.std.specs.Prelude.{◌≡◌, ℕ, ◌+◌, ◌-◌, ◌*◌, ◌%◌, ◌<◌, ◌≤◌, List, length, Option, Some, None, max, sum_by, slice_index_or}
+use Rattle.std.specs.Prelude.{◌≡◌, ℕ, ◌+◌, ◌-◌, ◌*◌, ◌%◌, ◌<◌, ◌≤◌, ◌||◌, Bool, true, false, List, length, Option, Some, None, max, sum_by, slice_index_or}
 use Rattle.fancy_regex_states.specs.Attempts.{NamesBelow}
 use Rattle.fancy_regex_states.specs.First.{state_at}
 use Rattle.fancy_regex_states.specs.declared.state.State.{State}
@@ -52,6 +52,22 @@ cell_cost table k = cost_of table (slice_index_or table.heads.items (k % length 
 abbrev pub known_cost : PartTable → Recall → ℕ
 known_cost table recall = known_weight (cell_cost table) recall
 
+-- whether a way from this state may write a slot, by this list
+abbrev pub may_write : List Bool → ℕ → Bool
+may_write writes q = slice_index_or writes q true
+
+-- whether this state writes a slot, or a way from one that it leads to may; a part that must have no way writes none
+abbrev pub leads_to_write : List Bool → State → Bool
+leads_to_write writes (S.Read leaf next) = may_write writes next
+leads_to_write writes (S.Look check next) = may_write writes next
+leads_to_write writes (Enter g next) = true
+leads_to_write writes (Leave g next) = true
+leads_to_write writes (Split first second) = may_write writes first || may_write writes second
+leads_to_write writes (Ask part false next) = may_write writes part || may_write writes next
+leads_to_write writes (Ask part true next) = may_write writes next
+leads_to_write writes (Atomic part same moved) = may_write writes part || (may_write writes same || may_write writes moved)
+leads_to_write writes Match = false
+
 -- what is right of the state q
 pub record IsRightAt (table : PartTable) (q : ℕ) : Type 0 where
   -- it names states
@@ -63,6 +79,8 @@ pub record IsRightAt (table : PartTable) (q : ℕ) : Type 0 where
   pub cheap : cost_of table q ≤ length table.states.items
   -- its cost is enough for it and those after it
   pub paid : owed table (state_at table.states.items q) + 1 ≤ cost_of table q
+  -- where no way from it writes, it leads to no state from which one may
+  pub no_write : may_write table.writes.items q ≡ false → leads_to_write table.writes.items (state_at table.states.items q) ≡ false
 
 -- all states are right, the parts weigh no more than there are states, and no marked state costs much more
 pub record IsTable (table : PartTable) : Type 0 where

@@ -55,9 +55,9 @@ impl WalkMemory {
 /// there is passed over. A group in a part that is asked, or in an atomic group, is on the part's own first way; one in a part that
 /// must have no way is not. The state has to have a way from `start`, as `ask` tells: the walk tests no assertion and no character
 /// again, and where there is no way the slots mean nothing. The walk goes from the end to the start, and what it meets a second time is
-/// written already: it follows no marked state twice from one place. A step takes at most as many looks as the dearest state, and the
-/// questions that the memory does not answer yet take those that it is paid for. The error is want of memory, and what the memory
-/// remembers then is still true.
+/// written already: it follows no marked state twice from one place, and none from which no way writes a slot. A step takes at most as
+/// many looks as the dearest state, and the questions that the memory does not answer yet take those that it is paid for. The error is
+/// want of memory, and what the memory remembers then is still true.
 pub fn walk(
     context: &PartContext,
     text: &mut Counted,
@@ -102,7 +102,8 @@ pub fn walk(
     }
 }
 
-/// Follows the first way from a state at the byte offset `at` by one step, unless the walk was there before. The error is want of memory.
+/// Follows the first way from a state at the byte offset `at` by one step, unless it writes no slot or the walk was there before. The
+/// error is want of memory.
 fn pass(
     context: &PartContext,
     text: &mut Counted,
@@ -141,6 +142,9 @@ fn pass(
         + dear * looks_left context.now.table.now (length (looked_text text.old)) walked.old.visited.base walked.old.visited
         (Follow state at ∷ last_first walked.old.tasks.items)) }
 {
+    if !context.table.may_write(state) {
+        return Ok(());
+    }
     if !arrive(context, &mut walked.visited, state, at)? {
         return Ok(());
     }

@@ -1,6 +1,6 @@
 //! The memory that questions share.
 
-ghost use Rattle.std.specs.Prelude.{◌≡◌, List, ℕ, length, vec_len};
+ghost use Rattle.std.specs.Prelude.{◌≡◌, ◌-◌, ◌≤◌, true, List, ℕ, length, vec_len};
 ghost use Rattle.fancy_regex_parts.specs.declared.step.PartContext.{PartContext as PartContextValue};
 
 use crate::frame::Frame;
@@ -43,8 +43,10 @@ impl PartMemory {
         self.stack.clear();
     }
 
-    /// Whether nothing is known of the byte offset `at`, nor of a later one. No clause says so.
-    pub fn ends_before(&self, at: usize) -> bool {
+    /// Whether nothing is known of the byte offset `at`, nor of a later one: there is no row for it.
+    pub fn ends_before(&self, at: usize) -> bool
+        ensures { result ≡ true → self.now.recall.rows ≤ at - self.now.recall.base }
+    {
         self.recall.ends_before(at)
     }
 

@@ -1,6 +1,6 @@
 //! What is known of pairs of a marked state and a byte offset.
 
-ghost use Rattle.std.specs.Prelude.{◌≡◌, ◌+◌, ◌-◌, ◌*◌, ◌<◌, ◌≤◌, ◌^◌, ◌++◌, ℕ, max, length, replicate, slice_set, IfOk, OnOk, OnErr};
+ghost use Rattle.std.specs.Prelude.{◌≡◌, ◌+◌, ◌-◌, ◌*◌, ◌<◌, ◌≤◌, ◌^◌, ◌++◌, ℕ, true, max, length, replicate, slice_set, IfOk, OnOk, OnErr};
 
 use std::alloc::{AllocError, Global};
 
@@ -72,8 +72,10 @@ impl Recall {
         self.rows = 0;
     }
 
-    /// Whether there is no row for the byte offset `at`, nor for a later one. No clause says so: it serves to forget what no search needs.
-    pub fn ends_before(&self, at: usize) -> bool {
+    /// Whether there is no row for the byte offset `at`, nor for a later one.
+    pub fn ends_before(&self, at: usize) -> bool
+        ensures { result ≡ true → self.now.rows ≤ at - self.now.base }
+    {
         at.saturating_sub(self.base) >= self.rows
     }
 

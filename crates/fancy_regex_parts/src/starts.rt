@@ -5,8 +5,8 @@ ghost use Rattle.fancy_regex_class.specs.Looks.{looked_text, look_count};
 ghost use Rattle.fancy_regex_meaning.specs.Positions.{boundaries};
 ghost use Rattle.fancy_regex_parts.specs.Tables.{due, cost_from};
 ghost use Rattle.fancy_regex_parts.specs.Frames.{IsPlace};
-ghost use Rattle.fancy_regex_parts.specs.Layers.{CanAsk, ForTrueWays, IsLookedAtOnce, LeavesMemory};
-ghost use Rattle.fancy_regex_parts.specs.Find.{earliest, attempted, failed_starts, AreStarts, IsAfter};
+ghost use Rattle.fancy_regex_parts.specs.Layers.{CanAsk, ForTrueWays, IsLookedAtOnce, IsWithinLooks, LeavesMemory};
+ghost use Rattle.fancy_regex_parts.specs.Find.{earliest, attempted, failed_starts, tried, AreStarts, IsAfter};
 
 use crate::memory::PartMemory;
 use crate::question::ask;
@@ -17,7 +17,9 @@ use std::alloc::AllocError;
 /// The first place from the byte offset `from` on, up to `last`, where the context's entry has a way, and where its first way from there
 /// ends; `None` if it has none. All questions together look at each place at most as often as the parts weigh, and for each start that
 /// is asked once more than what is due for the entry, also where memory ran out; and there is at least one look for each start that has
-/// no way. The error is want of memory, and what the memory remembers then is still true.
+/// no way. What earlier questions have found out is not looked for again: where memory suffices, the looks are those for the starts and
+/// those of the pairs that are known now and were not before. The error is want of memory, and what the memory remembers then is still
+/// true.
 pub fn find(
     context: &PartContext,
     text: &mut Counted,
@@ -38,6 +40,8 @@ pub fn find(
         + cost_from context.now.table.now (looked_text text.old) memory.old.recall.base)) }
     ensures bound { look_count text.new ≤ look_count text.old + (last - from + 1) * (due context.now.table.now context.now.entry + 1)
         + cost_from context.now.table.now (looked_text text.old) memory.old.recall.base }
+    ensures counted { IfOk result (λ found. IsWithinLooks context.now text.old text.new memory.old memory.new
+        (tried from last found * (due context.now.table.now context.now.entry + 1))) }
     ensures at_least { IfOk result (λ found. min (look_count text.old + failed_starts (looked_text text.old) from last found) (2 ^ 64 - 1)
         ≤ look_count text.new) }
 {

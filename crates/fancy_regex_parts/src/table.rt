@@ -1,7 +1,7 @@
 //! The states of parts, which of them are marked, and what it costs to try them.
 
 ghost use Rattle.std.specs.Prelude.{◌≡◌, ◌+◌, ◌-◌, ◌*◌, ◌^◌, ◌<◌, ◌≤◌, ◌↔◌, ℕ, true, false, Some, length, min, replicate, slice_index_or, IfOk, IfSome, IsSome};
-ghost use Rattle.fancy_regex_parts.specs.Tables.{AreClosed};
+ghost use Rattle.fancy_regex_parts.specs.Tables.{AreClosed, may_write as may_write_is, leads_to_write as leads_to_write_is};
 ghost use Rattle.fancy_regex_states.specs.First.{state_at};
 ghost use Rattle.fancy_regex_states.specs.Attempts.{NamesBelow};
 
@@ -22,6 +22,8 @@ pub struct PartTable {
     pub(crate) costs: Vec<usize>,
     /// No marked state costs more.
     pub(crate) most: usize,
+    /// For each state whether a way from it may write a slot.
+    pub(crate) writes: Vec<bool>,
 }
 
 impl PartTable {
@@ -55,6 +57,7 @@ impl PartTable {
         ensures { IfOk result (λ table. table.states.items ≡ states.items) }
     {
         let (marks, heads) = numbered(alloc, marked)?;
+        let writes = writing_states(alloc, &states)?;
         let mut costs = Vec::new(alloc);
         costs.resize(states.len(), 0)?;
         let mut table = PartTable {
@@ -63,6 +66,7 @@ impl PartTable {
             heads,
             costs,
             most: 0,
+            writes,
         };
         table.set_costs(false);
         table.set_costs(true);
@@ -87,6 +91,7 @@ impl PartTable {
             heads,
             costs,
             most: 1,
+            writes: Vec::new(alloc),
         })
     }
 
@@ -112,6 +117,31 @@ impl PartTable {
             Some(mark) => *mark,
             None => None,
         }
+    }
+
+    /// Whether a way from this state may write a slot.
+    #[inline(always)]
+    pub(crate) fn may_write(&self, state: usize) -> bool
+        ensures { result ≡ may_write_is self.now.writes.items state }
+    {
+        may_write(&self.writes, state)
+    }
+
+    /// Whether a part that has to have a way may write a slot: then a walk may go further than the match does. No clause says so.
+    pub fn asks_for_slots(&self) -> bool {
+        for q in 0..self.states.len() {
+            if let State::Ask {
+                part,
+                negated: false,
+                ..
+            } = self.states[q]
+            {
+                if self.may_write(part) {
+                    return true;
+                }
+            }
+        }
+        false
     }
 
     /// What it costs to try this state.
@@ -183,6 +213,9 @@ impl PartTable {
         if cost > self.states.len() {
             return false;
         }
+        if !self.is_right_of_writes(q, state) {
+            return false;
+        }
         self.owed(state) < cost
     }
 
@@ -197,6 +230,13 @@ impl PartTable {
             None => true,
             Some(mark) => mark < self.heads.len() && self.heads[mark] == q && cost <= self.most,
         }
+    }
+
+    /// Whether it is right of this state, the one of the number `q`, that no way from it writes a slot, if the table says so.
+    fn is_right_of_writes(&self, q: usize, state: State) -> bool
+        ensures { result ≡ true → may_write_is self.now.writes.items q ≡ false → leads_to_write_is self.now.writes.items state ≡ false }
+    {
+        self.may_write(q) || !leads_to_write(&self.writes, state)
     }
 
     /// Whether all states are right, and neither the parts weigh more than there are states, nor one marked state costs more.
@@ -253,6 +293,64 @@ fn leads_inside(states: &[State], q: usize) -> bool
 {
     let state = states[q];
     names_below(state, states.len())
+}
+
+/// Whether a way from this state may write a slot, by this list.
+#[inline(always)]
+fn may_write(writes: &[bool], state: usize) -> bool
+    ensures { result ≡ may_write_is writes.now state }
+{
+    match writes.get(state) {
+        Some(writes) => *writes,
+        None => true,
+    }
+}
+
+/// Whether this state writes a slot, or a way from one that it leads to may. A part that must have no way writes none.
+fn leads_to_write(writes: &[bool], state: State) -> bool
+    ensures { result ≡ leads_to_write_is writes.now state }
+{
+    match state {
+        State::Enter { .. } | State::Leave { .. } => true,
+        State::Read { next, .. }
+        | State::Look { next, .. }
+        | State::Ask {
+            negated: true,
+            next,
+            ..
+        } => may_write(writes, next),
+        State::Split { first, second } => may_write(writes, first) || may_write(writes, second),
+        State::Ask { part, next, .. } => may_write(writes, part) || may_write(writes, next),
+        State::Atomic { part, same, moved } => {
+            may_write(writes, part) || may_write(writes, same) || may_write(writes, moved)
+        }
+        State::Match => false,
+    }
+}
+
+/// For each state whether a way from it may write a slot. The error is want of memory.
+fn writing_states(alloc: Global, states: &[State]) -> Result<Vec<bool>, AllocError> {
+    let mut writes = Vec::new(alloc);
+    writes.resize(states.len(), false)?;
+    // A state may lead to a later one, so what is noted of one may be news for an earlier one.
+    for _ in 0..states.len() {
+        if !note_writes(&mut writes, states) {
+            return Ok(writes);
+        }
+    }
+    Ok(writes)
+}
+
+/// Notes each state from which a way may write a slot, as far as that is noted of those that it leads to; whether one is new.
+fn note_writes(writes: &mut [bool], states: &[State]) -> bool {
+    let mut found = false;
+    for q in 0..states.len() {
+        if q < writes.len() && !writes[q] && leads_to_write(writes, states[q]) {
+            writes[q] = true;
+            found = true;
+        }
+    }
+    found
 }
 
 /// For each state whether it is to be marked. The error is want of memory.

@@ -1,9 +1,10 @@
 -- Newlines up to the end of a text.
-use Rattle.std.proofs.Common.{◌≡◌, ℕ, zero, suc, ◌+◌, ◌<◌, ◌==◌, ◌⊎◌, Bool, true, false, ◌&&◌, ◌||◌, List, [], ◌∷◌, length, drop, get_or, refl, sym, ap, ◌∙◌, arith, ne_eqb, eqb-true, ⊎_elim, inl, inr}
+use Rattle.std.proofs.Common.{◌≡◌, ℕ, zero, suc, ◌+◌, ◌<◌, ◌≤◌, ◌==◌, ◌⊎◌, Bool, true, false, ◌&&◌, ◌||◌, List, [], ◌∷◌, length, drop, get_or, refl, sym, ap, ◌∙◌, arith, ne_eqb, eqb-true, ⊎_elim, inl, inr}
 use Rattle.std.proofs.Math.Seq.{drop-cons}
-use Rattle.std.proofs.lemmas.Bool.{cases_lt, false≢true, and_left, and_right}
+use Rattle.std.proofs.lemmas.Bool.{cases_lt, false≢true, and_left, and_right, le-leb, lt-leb}
+use Rattle.std.proofs.lemmas.List.{drop_all}
 use Rattle.std.proofs.lemmas.Option.{slice_get-get_or, slice_get_past}
-use Rattle.std.specs.Prelude.{slice_get}
+use Rattle.std.specs.Prelude.{slice_get, nat_le}
 use Rattle.regex_hir.specs.Text.{is_some_and}
 use Rattle.fancy_regex_meaning.specs.Positions.{are_newlines, is_before_byte}
 
@@ -67,3 +68,10 @@ no_newline crlf text p lt not_one more =
     let look = ap (λ o. is_some_and o (λ c. c == 10)) (get_drop text (p + 1)) in
     ap (are_newlines crlf) whole
     ∙ other_byte crlf (get_or text p 0) (drop (p + 1) text) not_one (⊎_elim (λ e. inl e) (λ e. inr (look ∙ e)) more)
+
+-- what the test for the end of the text says
+pub not_at_end : (text : List ℕ) (p : ℕ) → p < length text → nat_le (length text) p ≡ false
+not_at_end text p lt = lt-leb (length text) p lt
+
+pub past_end : (crlf : Bool) (text : List ℕ) (p : ℕ) → length text ≤ p → nat_le (length text) p ≡ are_newlines crlf (drop p text)
+past_end crlf text p le = le-leb (length text) p le ∙ sym (ap (are_newlines crlf) (drop_all p text le))

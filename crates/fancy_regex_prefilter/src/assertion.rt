@@ -1,16 +1,20 @@
 //! Evaluation of the zero-width assertions.
 
-ghost use Rattle.std.specs.Prelude.{◌≡◌, codes, drop, false};
+ghost use Rattle.std.specs.Prelude.{◌≡◌, ◌≤◌, codes, drop, false, length, nat_le};
 ghost use Rattle.fancy_regex_class.specs.Classes.{in_class};
 ghost use Rattle.fancy_regex_meaning.specs.Positions as places;
 ghost use Rattle.fancy_regex_meaning.specs.Ways as ways;
 ghost use Rattle.fancy_regex_prefilter.specs.RunContexts.{setting_of_run};
+ghost use Rattle.fancy_regex_tree.specs.declared.expr.Assertion.TheVariants.{EndTextIgnoreTrailingNewlines};
 
 use crate::matching::{char_at, char_before};
 use crate::run_context::RunContext;
 use fancy_regex_class::is_word;
 use fancy_regex_tree::Assertion;
 use ucd_perl::is_word_code;
+
+/// How many bytes of newlines may be read where nothing counts them.
+const MOST_NEWLINES: usize = 64;
 
 /// Whether the assertion holds at the byte offset `position`.
 pub fn holds(run: &RunContext<'_>, assertion: Assertion, position: usize) -> bool
@@ -88,6 +92,14 @@ fn is_line_end(text: &[u8], crlf: bool, position: usize) -> bool
 fn are_newlines(text: &[u8], crlf: bool, position: usize) -> bool
     ensures { result ≡ places.are_newlines crlf (drop position text.now) }
 {
+    newlines_end(text, crlf, position) >= text.len()
+}
+
+/// Where the newlines end that follow one another from `position` on: before the end of the text only if something else comes there.
+fn newlines_end(text: &[u8], crlf: bool, position: usize) -> usize
+    ensures low { position ≤ result }
+    ensures told { nat_le (length text.now) result ≡ places.are_newlines crlf (drop position text.now) }
+{
     let mut at = position;
     while at < text.len() {
         if text[at] == b'\n' {
@@ -95,10 +107,50 @@ fn are_newlines(text: &[u8], crlf: bool, position: usize) -> bool
         } else if crlf && text[at] == b'\r' && is_before_byte(text, b'\n', at + 1) {
             at += 2;
         } else {
+            return at;
+        }
+    }
+    at
+}
+
+/// Whether `\Z` holds at `position`, and how many bytes are read to tell that. No clause speaks of the second.
+pub fn text_end_holds(run: &RunContext<'_>, crlf: bool, position: usize) -> (bool, usize)
+    ensures { result.0 ≡ ways.holds (setting_of_run run.now) (EndTextIgnoreTrailingNewlines crlf) position }
+{
+    let text = run.text.as_bytes();
+    let end = newlines_end(text, crlf, position);
+    (end >= text.len(), end - position)
+}
+
+/// Whether many bytes may be read to tell whether the assertion holds at `position`. It is asked where nothing counts what is read. No
+/// clause says so.
+#[inline(always)]
+pub(crate) fn may_read_far(run: &RunContext<'_>, assertion: Assertion, position: usize) -> bool {
+    match assertion {
+        Assertion::EndTextIgnoreTrailingNewlines { .. } => {
+            follow_many_newlines(run.text.as_bytes(), position)
+        }
+        _ => false,
+    }
+}
+
+/// Whether bytes of newlines stand at `position` and after it, as many as may be read.
+fn follow_many_newlines(text: &[u8], position: usize) -> bool {
+    for distance in 0..MOST_NEWLINES {
+        if !may_be_newline(text, position.saturating_add(distance)) {
             return false;
         }
     }
     true
+}
+
+/// Whether a byte of a newline stands at `position`.
+#[inline(always)]
+fn may_be_newline(text: &[u8], position: usize) -> bool {
+    match text.get(position) {
+        Some(byte) => *byte == b'\n' || *byte == b'\r',
+        None => false,
+    }
 }
 
 /// Whether the character before `position` is a word character.

@@ -4,3 +4,4 @@ pub mod BuildLemmas
 pub mod RegularWeightLemmas
 pub mod ExactLemmas
 pub mod KeptLemmas
+pub mod PaidLemmas

@@ -1,7 +1,7 @@
 -- The states of a regular pattern weigh at most twice as much as its tree, and a search looks at the text accordingly.
 use Rattle.std.proofs.Common.{◌≡◌, ◌≢◌, ℕ, ◌+◌, ◌*◌, ◌-◌, ◌<◌, ◌≤◌, max, Bool, true, false, cond, not, List, [], ◌∷◌, length, Option, Some, None, if◌then◌else◌, refl, ap, arith}
 use Rattle.std.proofs.Math.Nat.{mul-le-mul_left}
-use Rattle.fancy_regex_tree.specs.Tree.{Tree, Trees, empty, any, assertion, general_newline, literal, concat, alt, group, look_around, repeat, delegate, atomic_group, verb, no_trees, more_trees}
+use Rattle.fancy_regex_tree.specs.Tree.{Tree, Trees, empty, any, assertion, general_newline, literal, concat, alt, group, look_around, repeat, delegate, atomic_group, conditional, verb, define_group, no_trees, more_trees}
 use Rattle.fancy_regex_tree.specs.declared.expr.Assertion.{Assertion}
 use Rattle.fancy_regex_tree.specs.declared.expr.Assertion.TheVariants.{EndTextIgnoreTrailingNewlines}
 use Rattle.fancy_regex_tree.specs.declared.expr.LookAround.{LookAround}
@@ -99,6 +99,14 @@ module _ (unicode : Bool) (groups : List Tree) where
     regular_light n k (look_around t L.LookBehindNeg) p =
         omega (arith, looked_light L.LookBehindNeg (char_leaf unicode k t) (re_of unicode groups n k t), regular_light n k t (one_char_regular t p))
     regular_light n k (atomic_group t) p = omega (arith, regular_light n k t p)
+    regular_light n k (conditional c a b) p =
+        omega (
+          arith,
+          regular_light n k c p.0,
+          regular_light (n + group_count c) (k + length (classes c)) a p.1.0,
+          regular_light (n + group_count c + group_count a) (k + length (classes c) + length (classes a)) b p.1.1,
+        )
+    regular_light n k (define_group t) p = omega arith
     regular_light n k (repeat t lo hi greedy) p =
         out_light (has_no_iteration lo hi) _ _ (repeat_light (is_unbounded hi) (may_be_empty groups t) lo hi _ _ (regular_light n k t p))
     regular_light n k (verb v) p = omega arith
@@ -151,7 +159,7 @@ walk_bound places start n due cost dear w old found new some early cheap light d
     let rest : places * cost ≤ places * (2 * w) = mul-le-mul_left places (omega (arith, light, weighs)) in
     omega (arith, first, most, each, all, square, two, rest)
 
-due_most : (mark : Option ℕ) (cost : ℕ) → due_of mark cost ≤ cost
+pub due_most : (mark : Option ℕ) (cost : ℕ) → due_of mark cost ≤ cost
 due_most None cost = omega arith
 due_most (Some m) cost = omega arith
 

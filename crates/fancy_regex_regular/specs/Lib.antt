@@ -6,3 +6,4 @@ pub mod Inputs
 pub mod Kept
 pub mod KeptProps
 pub mod Supported
+pub mod Iterations

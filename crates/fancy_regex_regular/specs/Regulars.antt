@@ -38,7 +38,7 @@ IsSlots regular text input found = (pattern : Pattern) → IsRegularOf regular p
     → found ≡ option_map (match_slots pattern) (first_match (setting_for regular.unicode text input) pattern (search_for false input))
 
 -- A search looks at the text at most four times as often as the pattern weighs at each place from this one to the end of the text, since
--- look-aheads see past the range. `\R` weighs 16 here, and `\Z` 7.
+-- look-aheads see past the range. `\R` weighs 16 here, `\Z` 7, and a conditional one more than elsewhere.
 abbrev pub LooksFrom : Regular → List ℕ → ℕ → ℕ → ℕ → Type 0
 LooksFrom regular text first old new = (pattern : Pattern) → IsRegularOf regular pattern
     → new ≤ old + 4 * tree_state_weight pattern.groups pattern.tree * (length text - first + 1)

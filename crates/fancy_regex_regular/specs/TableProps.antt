@@ -1,6 +1,6 @@
 -- That a table is right is so in one way.
 use Rattle.std.specs.Prelude.{ℕ, ◌<◌, length}
-use Rattle.std.specs.Coded.{×_prop, Unit-prop, le_prop, Coded-set, coded_ℕ}
+use Rattle.std.specs.Coded.{×_prop, Unit-prop, le_prop, Coded-set, coded_ℕ, coded_bool}
 use Rattle.fancy_regex_states.specs.Attempts.{NamesBelow}
 use Rattle.fancy_regex_states.specs.declared.state.State.{State}
 use Rattle.fancy_regex_states.specs.declared.state.State.TheVariants.{Split, Enter, Leave, Ask, Atomic, Match}
@@ -19,4 +19,4 @@ names_prop n (Atomic part same moved) = hlevel le_prop
 names_prop n Match = Unit-prop
 
 pub table_prop : (table : PartTable) → IsProp (IsTable table)
-table_prop table = hlevel (names_prop, le_prop, Coded-set coded_ℕ)
+table_prop table = hlevel (names_prop, le_prop, Coded-set coded_ℕ, Coded-set coded_bool)

@@ -1,6 +1,6 @@
--- How heavy a pattern is as states: its weight, but that `\R` and `\Z` become several states.
+-- How heavy a pattern is as states: its weight, but that `\R`, `\Z` and a conditional become several states.
 use Rattle.std.specs.Prelude.{ℕ, ◌+◌, ◌*◌, max, List}
-use Rattle.fancy_regex_tree.specs.Tree.{Tree, Trees, assertion, general_newline, concat, alt, group, look_around, repeat, atomic_group, no_trees, more_trees}
+use Rattle.fancy_regex_tree.specs.Tree.{Tree, Trees, assertion, general_newline, concat, alt, group, look_around, repeat, atomic_group, conditional, no_trees, more_trees}
 use Rattle.fancy_regex_tree.specs.declared.expr.Assertion.{Assertion}
 use Rattle.fancy_regex_tree.specs.declared.expr.Assertion.TheVariants.{EndTextIgnoreTrailingNewlines}
 use Rattle.fancy_regex_meaning.specs.Sizes.{bound_of, may_be_empty, repeat_weight, branch_gaps}
@@ -11,7 +11,7 @@ assertion_weight (EndTextIgnoreTrailingNewlines crlf) = 7
 assertion_weight _ = 1
 
 module _ (groups : List Tree) where
-  -- the weight of a node, where `\R` weighs 16
+  -- the weight of a node, where `\R` weighs 16, and a conditional 2 by itself
   unfoldable mutual
     pub state_weight : Tree → ℕ
     state_weight (general_newline wide) = 16
@@ -22,6 +22,7 @@ module _ (groups : List Tree) where
     state_weight (repeat t lo hi greedy) = repeat_weight groups lo (bound_of hi) (state_weight t) (may_be_empty groups t)
     state_weight (look_around t how) = 1 + state_weight t
     state_weight (atomic_group t) = 1 + state_weight t
+    state_weight (conditional c a b) = 2 + (state_weight c + (state_weight a + state_weight b))
     state_weight _ = 1
 
     pub state_weights : Trees → ℕ

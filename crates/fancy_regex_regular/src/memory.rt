@@ -1,6 +1,6 @@
 //! The memory that searches share.
 
-ghost use Rattle.std.specs.Prelude.{◌≡◌, ◌≤◌, true, None};
+ghost use Rattle.std.specs.Prelude.{◌≡◌, ◌-◌, ◌≤◌, ◌↔◌, true, false, None};
 ghost use Rattle.fancy_regex_regular.specs.Inputs.{IsOfInput, Serves};
 
 use fancy_regex_class::RunInput;
@@ -47,7 +47,7 @@ impl Kept {
 
     /// Whether a search with this input asks the same parts, at byte offsets that the memory may be asked about.
     fn serves(&self, input: &RunInput) -> bool
-        ensures { result ≡ true → Serves self.now input.now }
+        ensures exact { result ≡ true ↔ Serves self.now input.now }
     {
         self.first <= input.first
             && self.stop == input.range.end
@@ -91,7 +91,9 @@ impl RegularMemory {
     /// Whether a search with this input may use what is kept. It may not where that is of places before its first start alone: then
     /// nothing is lost, and the memory begins at that start.
     pub(crate) fn serves(&self, input: &RunInput) -> bool
-        ensures { result ≡ true → MemoryServes self.now.kept input.now }
+        ensures serves { result ≡ true → MemoryServes self.now.kept input.now }
+        ensures past { result ≡ false → MemoryServes self.now.kept input.now
+            → self.now.parts.recall.rows ≤ input.now.first - self.now.parts.recall.base }
     {
         match &self.kept {
             Some(kept) => kept.serves(input) && !self.parts.ends_before(input.first),

@@ -27,6 +27,8 @@ pub struct Regular {
     /// Whether group 0 is the whole match.
     whole: bool,
     unicode: bool,
+    /// Whether a part that has to have a way may write a group, so that a walk may go further than the match does.
+    asks_for_groups: bool,
     ghost right: { IsTable table } by { table_prop table },
     ghost inside: { entry < length table.states.items },
 }
@@ -41,6 +43,7 @@ impl Drop for Regular {
             groups: _groups,
             whole: _whole,
             unicode: _unicode,
+            asks_for_groups: _asks_for_groups,
         } = self;
     }
 }
@@ -51,6 +54,8 @@ impl Regular {
     ghost use Rattle.fancy_regex_regular.specs.Supported.{IsSupported};
     ghost use Rattle.fancy_regex_regular.specs.Regulars.{IsRegularOf, IsContextOf, IsSpan, IsSlots, LooksFrom, LooksForGroupsFrom, LooksAtMost, starts_without};
     ghost use Rattle.fancy_regex_regular.specs.Kept.{IsKeptOf, IsReady};
+    ghost use Rattle.fancy_regex_regular.specs.Inputs.{MemoryServes};
+    ghost use Rattle.fancy_regex_regular.specs.Iterations.{LooksOn, MayServe, IsPaidWithin, paid_before, paid_by};
     ghost use Rattle.fancy_regex_info.specs.Analysis.{analysis};
     ghost use Rattle.fancy_regex_info.specs.Infos.{info_of};
     ghost use Rattle.fancy_regex_info.specs.declared.info.Info.{out-Info};
@@ -58,7 +63,7 @@ impl Regular {
 
     /// Whether an analyzed pattern becomes states with parts under these options. The first match is wanted then, not the longest, and the
     /// weight is at most 4,000. The pattern has no more than characters, `\R`, `(*FAIL)`, assertions, look-behinds for one character,
-    /// look-aheads, groups, atomic groups, alternations and repeats of these.
+    /// definitions, and look-aheads, groups, atomic groups, conditionals, alternations and repeats of these.
     pub fn supports(info: &Info<'_>, options: &CompileOptions) -> bool
         ensures exact { (explicit : Bool) (t : Tree) → info_of info.now ≡ analysis explicit t
             → (result ≡ true ↔ IsSupported options.now.leftmost_longest (pattern_in explicit t)) }
@@ -103,6 +108,7 @@ impl Regular {
         let built = PartTable::new(alloc, states)?;
         match built {
             Some(table) => Ok(Some(Regular {
+                asks_for_groups: table.asks_for_slots(),
                 table,
                 entry,
                 matchers,
@@ -112,6 +118,12 @@ impl Regular {
             })),
             None => Ok(None),
         }
+    }
+
+    /// Whether a look-ahead may write groups. Where none does, a search for groups takes no longer than one for the match and a walk along
+    /// it. No clause says so.
+    pub fn asks_for_groups(&self) -> bool {
+        self.asks_for_groups
     }
 
     /// Searches the text, and answers the capture groups of the first match: two byte offsets for each group, both `usize::MAX` if the
@@ -209,7 +221,9 @@ impl Regular {
 
     /// Where the first match starts and ends, as `find_span_in`, where the memory, if it keeps anything, keeps what searches of this
     /// pattern in this text have found out: that is not looked for again, and what this search finds out is kept too, also where memory
-    /// runs out.
+    /// runs out. So where memory suffices and each search of an iteration has the end and the flags of the one before and begins no
+    /// earlier, all of them together look at each place of the text at most as often as the states weigh, and once more than what is due
+    /// for the first state for each start (`shared`, `paid`, `serves`).
     pub fn find_span_again(
         &self,
         text: &str,
@@ -225,6 +239,10 @@ impl Regular {
         ensures at_most { input.now.first ≤ input.now.range.end
             → LooksFrom self.now text.now memory.new.parts.recall.base steps.old steps.new }
         ensures anew { memory.old.kept ≡ None → input.now.first ≤ input.now.range.end → memory.new.parts.recall.base ≡ input.now.first }
+        ensures shared { IfOk result (λ found. input.now.first ≤ input.now.range.end
+            → LooksOn self.now input.now memory.old memory.new steps.old steps.new found) }
+        ensures paid { input.now.first ≤ input.now.range.end → IsPaidWithin self.now text.now memory.new.parts }
+        ensures serves { input.now.first ≤ input.now.range.end → MemoryServes memory.new.kept input.now }
         ensures at_least { IfOk result (λ found. input.now.first ≤ input.now.range.end
             → min (steps.old + starts_without text.now input.now found) (2 ^ 64 - 1) ≤ steps.new) }
         ensures counts { steps.old ≤ steps.new }
@@ -252,6 +270,9 @@ impl Regular {
         requires { IsContextOf self.now input.now context.now }
         ensures ready { (text : List ℕ) → IsKeptOf self.now text memory.old → IsReady context.now text input.now memory.new }
         ensures anew { memory.old.kept ≡ None → memory.new.parts.recall.base ≡ input.now.first }
+        ensures paid { (text : List ℕ) → IsKeptOf self.now text memory.old → MayServe memory.old.kept input.now
+            → paid_before self.now input.now memory.old ≤ paid_by self.now memory.new.parts }
+        ensures serves { MemoryServes memory.new.kept input.now }
     {
         if memory.serves(input) {
             return;

@@ -11,7 +11,7 @@ mod state;
 
 pub use atom::{Leaf, Test};
 pub use before::refused_after;
-pub use char_tests::{is_matched, leaf_matches, test_holds};
+pub use char_tests::{is_ascii_leaf, is_matched, leaf_matches, test_holds};
 pub use first::FirstChars;
 pub use rules::Rules;
 pub use state::State;

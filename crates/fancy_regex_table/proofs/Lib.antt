@@ -8,8 +8,12 @@ pub mod MakingLemmas
 pub mod MakerLemmas
 pub mod LeafSetLemmas
 pub mod SortLemmas
+pub mod DecodeLemmas
 pub mod PlaceLemmas
 pub mod TableLemmas
 pub mod AlphabetLemmas
 pub mod MadeLemmas
 pub mod SignLemmas
+pub mod QuestionLemmas
+pub mod BlockLemmas
+pub mod WideLemmas

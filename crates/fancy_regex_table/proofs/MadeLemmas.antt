@@ -13,6 +13,8 @@ use Rattle.fancy_regex_table.specs.Flat.{IsFlatCell, AreFlat, ArePlaced}
 use Rattle.fancy_regex_table.specs.Made.{IsMadeOf}
 use Rattle.fancy_regex_table.specs.Making.{AreColumnsOf, ReadsAlike}
 use Rattle.fancy_regex_table.specs.Tables.{IsTable, HasColumn, IsFreshRow, AreBegins}
+use Rattle.fancy_regex_table.specs.Wides.{class_of}
+use Rattle.std.specs.Char.{IsScalar}
 use Rattle.fancy_regex_table.proofs.Adding.{pushed}
 use Rattle.fancy_regex_table.proofs.FlatLemmas.{row_at, has_number, tells_placed, fresh_placed}
 use Rattle.fancy_regex_table.specs.declared.alphabet.Alphabet.{Alphabet}
@@ -57,6 +59,19 @@ module _ (parts : Parts) (columns : List Column) (alphabet : Alphabet) (is_alpha
             (alike_same parts.unicode parts.matchers None (state_at parts.states q));
       }
 
+  wide_column : (c : ℕ) → IsScalar c → 128 ≤ c → 0 < class_of parts.unicode parts.matchers alphabet.wide c
+      → HasColumn parts columns alphabet.asked (Some c) (class_of parts.unicode parts.matchers alphabet.wide c)
+  wide_column c scalar low pos =
+      let class = is_alphabet.wide c scalar low pos in
+      let it = are_columns (class_of parts.unicode parts.matchers alphabet.wide c) class.sample class.is_there in
+      record {
+        column = it.column;
+        is_there = it.is_there;
+        sort = it.is_of.1 ∙ sym class.alike.sorts;
+        alike = λ q below.
+            subst (λ (o : Option ℕ). ReadsAlike parts.unicode parts.matchers (Some c) o (state_at parts.states q)) (sym it.is_of.0) (class.alike.alike q below);
+      }
+
   many : 0 < length columns
   many = slice_get_within columns 0 end_column.column end_column.is_there
 
@@ -78,7 +93,7 @@ module _ (parts : Parts) (columns : List Column) (alphabet : Alphabet) (is_alpha
       (begins : Vec (Option ℕ) Global) (is_whole : Bool) (beyond : (b : ℕ) → 128 ≤ b → b < 256 → length cells.items ≤ slice_index classes b)
       → IsMadeOf parts columns made_cells made_fresh → AreFlat made_cells (length columns) cells.items → ArePlaced (length columns) made_fresh fresh.items
       → AreBegins columns fresh.items begins.items → ((c : ℕ) → c < 128 → slice_index classes c ≡ slice_index alphabet.ascii c)
-      → IsTable parts (record { cells = cells; classes = classes; asked = alphabet.asked; unicode = parts.unicode; fresh = fresh; begins = begins; is_whole = is_whole; beyond = beyond })
+      → IsTable parts (record { cells = cells; classes = classes; wide = alphabet.wide; asked = alphabet.asked; unicode = parts.unicode; fresh = fresh; begins = begins; is_whole = is_whole; beyond = beyond })
   table_is cells classes made_cells made_fresh fresh begins is_whole beyond made flat placed are_begins small = record {
     rows = row_at made.rows (length columns);
     columns = columns;
@@ -93,6 +108,7 @@ module _ (parts : Parts) (columns : List Column) (alphabet : Alphabet) (is_alpha
     begins = are_begins;
     ascii = λ c lt. subst (HasColumn parts columns alphabet.asked (Some c)) (sym (small c lt)) (ascii_column c lt);
     end = end_column;
+    wide = wide_column;
   }
 
 -- one more class

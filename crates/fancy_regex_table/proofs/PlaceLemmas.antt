@@ -1,6 +1,7 @@
 -- Places of a text, as the cells of a table speak of them.
 use Rattle.std.proofs.Common.{◌≡◌, ℕ, ◌+◌, ◌<◌, ◌≤◌, ◌&&◌, Bool, true, false, not, List, length, Option, Some, None, refl, sym, ap, subst, ◌∙◌, arith, lt-ltb}
-use Rattle.std.proofs.lemmas.Bool.{le-leb, lt-leb, cond-true}
+use Rattle.std.proofs.lemmas.Bool.{le-leb, lt-leb}
+use Rattle.std.proofs.lemmas.Str.{len_utf8_bounds}
 use Rattle.std.specs.Char.{len_utf8}
 use Rattle.std.specs.Prelude.{is_none, nat_lt, option_map, unwrap_or}
 use Rattle.regex_hir.specs.Text.{is_some_and, char_at, char_before}
@@ -19,7 +20,8 @@ use Rattle.fancy_regex_table.specs.Making.{ReadsAlike}
 use Rattle.fancy_regex_table.specs.Meanings.{HoldsAs, ReadsAs}
 use Rattle.fancy_regex_table.specs.Sorts.{sort_at, holds_between, AsksTest, IsAsked}
 use Rattle.fancy_regex_table.proofs.LeafSetLemmas.{matched_in}
-use Rattle.fancy_regex_table.specs.Tables.{IsSearchOf, IsTable, Stands, HasColumn}
+use Rattle.fancy_regex_table.specs.Tables.{IsSearchOf, IsTable, Stands, HasColumn, IsCharTo}
+use Rattle.fancy_regex_table.proofs.DecodeLemmas.{alone_to}
 use Rattle.fancy_regex_table.specs.declared.sort.Asked.{Asked}
 use Rattle.fancy_regex_table.specs.declared.sort.Sort.{Sort}
 use Rattle.fancy_regex_table.specs.declared.table.Place.{Place}
@@ -115,9 +117,6 @@ reads_as unicode matchers view stop at c sample (S.Ask part negated next) here a
 reads_as unicode matchers view stop at c sample (S.Atomic part same moved) here alike = tt
 reads_as unicode matchers view stop at c sample S.Match here alike = tt
 
-ascii_width : (c : ℕ) → c < 128 → len_utf8 c ≡ 1
-ascii_width c small = cond-true _ _ _ (lt-ltb c 0x80 small)
-
 abbrev pub width_of : Option ℕ → ℕ
 width_of None = 1
 width_of (Some c) = len_utf8 c
@@ -142,18 +141,20 @@ module _ {parts : Parts} {rules : Rules} {s : Search} {table : Table} (t : IsTab
       (is_after ∙ ap (λ (u : Bool). sort_at parts.matchers table.asked u other) (sym search.unicode) ∙ ap (sort_at parts.matchers table.asked rules.unicode) (sym is))
       (state_at parts.states q) (t.asks q lt)
 
-  next_after : (c : ℕ) → c < 128 → char_at s.text place.at ≡ Some c → s.view.next place.at ≡ place.at + 1
-  next_after c small is =
-      subst (λ (n : ℕ). s.view.next place.at ≡ place.at + n) (ascii_width c small)
-      (subst (λ (o : Option ℕ). s.view.next place.at ≡ place.at + width_of o) is (here_shows.next ∙ ap (λ (n : ℕ). place.at + n) (width_is (char_at s.text place.at))))
+  next_after : (c next : ℕ) → IsCharTo s.text place.at c next → s.view.next place.at ≡ next
+  next_after c next char =
+      subst (λ (o : Option ℕ). s.view.next place.at ≡ place.at + width_of o) char.here (here_shows.next ∙ ap (λ (n : ℕ). place.at + n) (width_is (char_at s.text place.at)))
+      ∙ sym char.next_is
 
-  -- a place before an ASCII character
-  pub ascii_place : (c class : ℕ) → c < 128 → char_at s.text place.at ≡ Some c → place.at < s.stop → (h : HasColumn parts t.columns table.asked (Some c) class)
-      → IsPlace parts s (sort_before stands.row) h.column.sort h.column.sample place.at (place.at + 1)
-  ascii_place c class small is lt h =
-      let next : s.view.next place.at ≡ place.at + 1 = next_after c small is in
-      let low : place.at < s.view.next place.at = omega arith in
-      let inside : s.view.next place.at ≤ s.stop = omega arith in
+  -- a place before a character
+  pub char_place : (c class next : ℕ) → IsCharTo s.text place.at c next → next ≤ s.stop → (h : HasColumn parts t.columns table.asked (Some c) class)
+      → IsPlace parts s (sort_before stands.row) h.column.sort h.column.sample place.at next
+  char_place c class after char fits h =
+      let is = char.here in
+      let next : s.view.next place.at ≡ after = next_after c after char in
+      let long = (len_utf8_bounds c).0 in
+      let low : place.at < s.view.next place.at = omega (arith, next, char.next_is, long) in
+      let inside : s.view.next place.at ≤ s.stop = omega (arith, next, fits) in
       record {
         meaning = search.meaning;
         entry = search.entry;
@@ -169,7 +170,7 @@ module _ {parts : Parts} {rules : Rules} {s : Search} {table : Table} (t : IsTab
             ∙ ap (λ (u : Bool). leaf_matches_char u parts.matchers leaf c) search.unicode) low inside)
             (h.alike q below);
         next_is = next;
-        alone = λ p over less boundary. absurd (omega arith);
+        alone = λ p over less boundary. alone_to s.text place.at c after p char over less boundary;
       }
 
   -- the end of the text

@@ -12,3 +12,6 @@ pub mod Alphabets
 pub mod Tables
 pub mod Flat
 pub mod Signs
+pub mod Questions
+pub mod Blocks
+pub mod Wides

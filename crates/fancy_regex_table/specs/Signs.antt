@@ -61,3 +61,9 @@ abbrev pub IfTo : Onward → (Place → Type 0) → Type 0
 IfTo (O.To next) P = P next
 IfTo O.Noted P = Unit {0}
 IfTo O.Nowhere P = Unit {0}
+
+-- the same, and an end that is noted is that of a match
+abbrev pub LearnsOf : Search → Onward → (Place → Type 0) → Type 0
+LearnsOf s (O.To next) P = P next
+LearnsOf s O.Noted P = HasMatch s
+LearnsOf s O.Nowhere P = Unit {0}

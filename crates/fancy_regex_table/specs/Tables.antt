@@ -1,5 +1,6 @@
 -- What a table says of a search.
 use Rattle.std.specs.Prelude.{◌≡◌, ◌⊎◌, ◌<◌, ◌≤◌, ◌+◌, ℕ, Bool, false, List, Option, Some, None, slice_get, slice_index, length, IsCharBoundary, IsUtf8}
+use Rattle.std.specs.Char.{IsScalar, len_utf8}
 use Rattle.regex_hir.specs.Text.{char_at, char_before}
 use Rattle.fancy_regex_class.specs.declared.class.CharClassMatcher.{CharClassMatcher}
 use Rattle.fancy_regex_states.specs.Attempts.{ShowsAll}
@@ -10,6 +11,7 @@ use Rattle.fancy_regex_table.specs.Made.{AreFreshBy}
 use Rattle.fancy_regex_table.specs.Making.{ReadsAlike}
 use Rattle.fancy_regex_table.specs.Meanings.{IsMeaning}
 use Rattle.fancy_regex_table.specs.Sorts.{sort_at, AreAsked}
+use Rattle.fancy_regex_table.specs.Wides.{class_of}
 use Rattle.fancy_regex_table.specs.declared.columns.Column.{Column}
 use Rattle.fancy_regex_table.specs.declared.row.Cell.{Cell}
 use Rattle.fancy_regex_table.specs.declared.rows.FreshRow.{FreshRow}
@@ -20,6 +22,8 @@ use Rattle.fancy_regex_table.specs.declared.table.Passed.{Passed}
 use Rattle.fancy_regex_table.specs.declared.table.Passed.TheVariants as P
 use Rattle.fancy_regex_table.specs.declared.table.Place.{Place}
 use Rattle.fancy_regex_table.specs.declared.table.Table.{Table}
+use Rattle.fancy_regex_table.specs.declared.wide.Wide.{Wide}
+use Rattle.fancy_regex_table.specs.declared.wide.WideChar.{WideChar}
 
 -- the class of this number is that of the character
 pub record HasColumn (parts : Parts) (columns : List Column) (asked : Asked) (c : Option ℕ) (class : ℕ) : Type 0 where
@@ -57,6 +61,8 @@ pub record IsTable (parts : Parts) (table : Table) : Type 0 where
   pub begins : AreBegins columns table.fresh.items table.begins.items
   pub ascii : (c : ℕ) → c < 128 → HasColumn parts columns table.asked (Some c) (slice_index table.classes c)
   pub end : HasColumn parts columns table.asked None 0
+  pub wide : (c : ℕ) → IsScalar c → 128 ≤ c → 0 < class_of parts.unicode parts.matchers table.wide c
+      → HasColumn parts columns table.asked (Some c) (class_of parts.unicode parts.matchers table.wide c)
 
 -- The search is one of this text by these states, and no end of the text is hidden from it.
 pub record IsSearchOf (parts : Parts) (rules : Rules) (s : Search) : Type 0 where
@@ -96,51 +102,73 @@ pub record Stands (matchers : List CharClassMatcher) (asked : Asked) (unicode : 
   pub boundary : IsCharBoundary s.text place.at
   pub start_boundary : IsCharBoundary s.text place.start
 
--- what was found lies between the first attempt and the place
-abbrev pub LiesBetween : Place → Passed → Type 0
-LiesBetween place (P.Match start end read) = (place.start ≤ start) × (start ≤ read) × (read ≡ place.at)
-LiesBetween place P.Ended = Unit {0}
-LiesBetween place (P.Idle next) = ⊥
-LiesBetween place (P.Unknown from read) = (place.start ≤ from) × (from ≤ read) × (read ≡ place.at)
+-- the place, or the start of the first attempt there
+abbrev pub IsOffsetOf : Place → ℕ → Type 0
+IsOffsetOf place x = (x ≡ place.start) ⊎ (x ≡ place.at)
 
--- it does so, or the search goes on after an ASCII character
-abbrev pub IsDoneAt : Place → ℕ → Passed → Type 0
-IsDoneAt place byte (P.Match start end read) = LiesBetween place (P.Match start end read)
-IsDoneAt place byte P.Ended = Unit {0}
-IsDoneAt place byte (P.Idle next) = (next ≡ place.at + 1) × (byte < 128)
-IsDoneAt place byte (P.Unknown from read) = LiesBetween place (P.Unknown from read)
+-- what was found begins with the first attempt, or at the place
+abbrev pub LiesAt : Place → Passed → Type 0
+LiesAt place (P.Match start end read) = IsOffsetOf place start × (read ≡ place.at)
+LiesAt place P.Ended = Unit {0}
+LiesAt place (P.Idle next) = ⊥
+LiesAt place (P.Unknown from read) = IsOffsetOf place from × (read ≡ place.at)
 
 -- the search goes on after an ASCII character
 pub record IsOnward (place : Place) (byte : ℕ) (next : Place) : Type 0 where
   pub ascii : byte < 128
   pub at : next.at ≡ place.at + 1
-  pub low : place.start ≤ next.start
-  pub high : next.start ≤ place.at
+  pub start : IsOffsetOf place next.start
 
--- a character begins at each place from the first to the second
-abbrev pub AreBoundaries : List ℕ → ℕ → ℕ → Type 0
-AreBoundaries text low high = (i : ℕ) → low ≤ i → i ≤ high → IsCharBoundary text i
+-- a place of the range, and the start of the first attempt there
+pub record IsPlaceIn (text : List ℕ) (stop : ℕ) (place : Place) : Type 0 where
+  pub order : place.start ≤ place.at
+  pub high : place.at ≤ stop
+  pub boundary : IsCharBoundary text place.at
+  pub start_boundary : IsCharBoundary text place.start
 
--- the search goes on from one place to another one, over ASCII characters
+-- the search goes on from one place to another one
 pub record IsRunTo (text : List ℕ) (first : Place) (stop : ℕ) (to : Place) : Type 0 where
   pub low : first.start ≤ to.start
-  pub order : to.start ≤ to.at
-  pub high : to.at ≤ stop
-  pub boundaries : AreBoundaries text first.at to.at
   pub onward : first.at ≤ to.at
+  pub place : IsPlaceIn text stop to
+
+-- it goes on at a later place
+pub record IsLater (text : List ℕ) (place : Place) (stop : ℕ) (next : Place) : Type 0 where
+  pub low : place.start ≤ next.start
+  pub onward : place.at < next.at
+  pub is_in : IsPlaceIn text stop next
+
+-- a search begins at this place
+pub record IsFreshAt (at : ℕ) (place : Place) : Type 0 where
+  pub at_is : place.at ≡ at
+  pub start_is : place.start ≡ at
 
 -- what was found lies in the range
 abbrev pub IsInRange : List ℕ → ℕ → ℕ → Passed → Type 0
 IsInRange text low stop (P.Match start end read) = (low ≤ start) × (start ≤ read) × (read ≤ stop) × IsCharBoundary text start
 IsInRange text low stop P.Ended = Unit {0}
 IsInRange text low stop (P.Idle next) = (low < next) × (next ≤ stop) × IsCharBoundary text next
-IsInRange text low stop (P.Unknown from read) = (low ≤ from) × (from ≤ read) × (read ≤ stop) × AreBoundaries text low read
+IsInRange text low stop (P.Unknown from read) = (low ≤ from) × (from ≤ read) × (read ≤ stop) × IsCharBoundary text from × IsCharBoundary text read
+
+-- a character stands at the first place, and the next one begins at the second
+pub record IsCharTo (text : List ℕ) (at c next : ℕ) : Type 0 where
+  pub here : char_at text at ≡ Some c
+  pub before_next : char_before text next ≡ Some c
+  pub boundary_next : IsCharBoundary text next
+  pub next_is : next ≡ at + len_utf8 c
 
 -- an ASCII character stands here
-pub record IsAsciiAt (text : List ℕ) (at c : ℕ) : Type 0 where
-  pub here : char_at text at ≡ Some c
-  pub before_next : char_before text (at + 1) ≡ Some c
-  pub boundary_next : IsCharBoundary text (at + 1)
+abbrev pub IsAsciiAt : List ℕ → ℕ → ℕ → Type 0
+IsAsciiAt text at c = IsCharTo text at c (at + 1)
+
+-- A character stands here that is not ASCII; its class is not 0 only where it is known and the character ends by `stop`.
+pub record IsWideTo (unicode : Bool) (matchers : List CharClassMatcher) (wide : Wide) (text : List ℕ) (at stop : ℕ) (it : WideChar) : Type 0 where
+  pub c : ℕ
+  pub is_scalar : IsScalar c
+  pub low : 128 ≤ c
+  pub char : IsCharTo text at c it.next
+  pub class : 0 < it.class → it.class ≡ class_of unicode matchers wide c
+  pub inside : 0 < it.class → it.next ≤ stop
 
 -- the start, or this place in a row for searches that begin
 abbrev pub IsStartAt : List FreshRow → Place → ℕ → Type 0

@@ -6,10 +6,12 @@ ghost use Rattle.fancy_regex_table.specs.Alphabets.{HasLeaf, HaveLeaves, Matches
 
 use crate::sort::{Asked, sort_of};
 use crate::step::{Reader, matches};
+use crate::wide::Wide;
+use crate::wide_maker::wide_of;
 use fancy_regex_states::{Leaf, State};
 use std::alloc::{AllocError, Global};
 
-/// The classes of ASCII characters that the states do not tell apart, and the end of the text as a class of its own, the first.
+/// The classes of characters that the states do not tell apart, and the end of the text as a class of its own, the first.
 #[derive(Drop)]
 pub struct Alphabet {
     /// What the assertions ask about a character.
@@ -18,16 +20,18 @@ pub struct Alphabet {
     pub samples: Vec<Option<char>>,
     /// The number of each ASCII character's class.
     pub ascii: [u8; 128],
+    /// The classes of the other characters.
+    pub wide: Wide,
 }
 
 /// What tells characters apart.
 #[derive(Clone, Copy)]
-struct CharTests<'t> {
-    reader: &'t Reader<'t>,
+pub struct CharTests<'t> {
+    pub reader: &'t Reader<'t>,
     /// The leaves of the states.
-    leaves: &'t [Leaf],
+    pub leaves: &'t [Leaf],
     /// What the assertions ask about a character.
-    asked: Asked,
+    pub asked: Asked,
 }
 
 impl Alphabet {
@@ -54,10 +58,12 @@ impl Alphabet {
             let class = class_for(&tests, &mut samples, &mut hashes, c)?;
             ascii[code as usize] = class as u8;
         }
+        let wide = wide_of(alloc, &tests, &mut samples, &mut hashes)?;
         Ok(Alphabet {
             asked,
             samples,
             ascii,
+            wide,
         })
     }
 }
@@ -102,7 +108,7 @@ fn hash_of(reader: &Reader, leaves: &[Leaf], c: Option<char>) -> u64 {
 
 /// The number of the character's class, which is added if it is new. `hashes` are those of the samples after the first. The error is
 /// want of memory.
-fn class_for(
+pub fn class_for(
     tests: &CharTests,
     samples: &mut Vec<Option<char>>,
     hashes: &mut Vec<u64>,

@@ -3,12 +3,14 @@
 
 mod alphabet;
 mod begun;
+mod blocks;
 mod close;
 mod columns;
 mod flat;
 mod leaf_set;
 mod maker;
 mod pattern;
+mod question;
 mod row;
 mod rows;
 mod sign;
@@ -16,6 +18,8 @@ mod sort;
 mod step;
 mod table;
 mod target;
+mod wide;
+mod wide_maker;
 
 pub use sign::Sign;
 pub use table::{Passed, Table};

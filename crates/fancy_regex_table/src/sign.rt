@@ -36,8 +36,9 @@ enum Onward {
 }
 
 impl Table {
-    ghost use Rattle.fancy_regex_table.specs.Tables.{IsTable, IsSearchOf, IsAsciiAt, Stands};
-    ghost use Rattle.fancy_regex_table.specs.Signs.{IsSign, IsSignInRange, IsLearned, IfTo};
+    ghost use Rattle.fancy_regex_table.specs.Tables.{IsTable, IsSearchOf, IsAsciiAt, IsLater, IsPlaceIn, Stands};
+    ghost use Rattle.fancy_regex_table.specs.Signs.{IsSign, IsSignInRange, IsLearned, IfTo, LearnsOf};
+    ghost use Rattle.fancy_regex_table.specs.Wides.{IsWideAt};
 
     /// Goes through the text as `pass` does, from the byte offset `from`, after the character `before`, to the end of the text, but
     /// only up to where the first attempt has a match, which need not be the one that is wanted. The matchers are those of the states.
@@ -67,14 +68,33 @@ impl Table {
             last: from,
         };
         'chars: while place.at < bytes.len() {
-            let byte = bytes[place.at];
-            match self.onward(byte, place) {
+            match self.learn(matchers, text, place) {
                 Onward::To(next) => place = next,
                 Onward::Noted => return Sign::Match,
-                Onward::Nowhere => return sign_of(self.outcome(byte, place)),
+                Onward::Nowhere => {
+                    return sign_of(self.outcome(matchers, text, place, bytes.len()));
+                }
             }
         }
         sign_of(self.at_stop(place, true))
+    }
+
+    /// What is learned by the character at this place.
+    #[inline(always)]
+    fn learn(&self, matchers: &[CharClassMatcher], text: &str, place: Place) -> Onward
+        requires place { IsPlaceIn text.now (length text.now) place }
+        requires inside { place.at < length text.now }
+        ensures later { IfTo result (IsLater text.now place (length text.now)) }
+        ensures learns { (parts : Parts) (rules : Rules) (s : Search) (table : IsTable parts self.now) → IsSearchOf parts rules s
+            → parts.matchers ≡ matchers.now → s.text ≡ text.now → s.stop ≡ length text.now
+            → Stands parts.matchers self.now.asked self.now.unicode table.rows s place
+            → LearnsOf s result (Stands parts.matchers self.now.asked self.now.unicode table.rows s) }
+    {
+        let byte = text.as_bytes()[place.at];
+        if byte < 128 {
+            return self.onward(byte, place);
+        }
+        self.wide_onward(matchers, text, place)
     }
 
     /// What is learned by the character at this place, whose first byte this is. Its cell is looked up once.
@@ -93,6 +113,37 @@ impl Table {
             Cell::Next { begins, row, .. } => Onward::To(Place {
                 row,
                 at: place.at + 1,
+                start: begun_at(begins, place.at, place.start),
+                last: place.last,
+            }),
+            _ => Onward::Nowhere,
+        }
+    }
+
+    /// The same of a character that is not ASCII.
+    #[inline(always)]
+    fn wide_onward(&self, matchers: &[CharClassMatcher], text: &str, place: Place) -> Onward
+        requires place { IsPlaceIn text.now (length text.now) place }
+        requires wide { IsWideAt text.now place.at }
+        ensures later { IfTo result (IsLater text.now place (length text.now)) }
+        ensures learns { (parts : Parts) (rules : Rules) (s : Search) (table : IsTable parts self.now) → IsSearchOf parts rules s
+            → parts.matchers ≡ matchers.now → s.text ≡ text.now → s.stop ≡ length text.now
+            → Stands parts.matchers self.now.asked self.now.unicode table.rows s place
+            → LearnsOf s result (Stands parts.matchers self.now.asked self.now.unicode table.rows s) }
+    {
+        let c = self.wide_char(matchers, text, place.at, text.len());
+        if c.class == 0 {
+            return Onward::Nowhere;
+        }
+        match cell_at(&self.cells, c.class as u32, place.row) {
+            Cell::Next {
+                ends: true,
+                row: _,
+                ..
+            } => Onward::Noted,
+            Cell::Next { begins, row, .. } => Onward::To(Place {
+                row,
+                at: c.next,
                 start: begun_at(begins, place.at, place.start),
                 last: place.last,
             }),

@@ -15,6 +15,7 @@ use crate::row::Cell;
 use crate::rows::{FreshRow, begins_of, fresh_for};
 use crate::sort::{Asked, asked_by, sort_of};
 use crate::step::Reader;
+use crate::wide::{Wide, WideChar};
 use fancy_regex_class::CharClassMatcher;
 use fancy_regex_states::State;
 use std::alloc::{AllocError, Global};
@@ -63,6 +64,8 @@ pub struct Table {
     pub(crate) cells: Vec<Cell>,
     /// The number of each ASCII character's class, and for each other byte one beyond all cells.
     pub(crate) classes: [u32; 256],
+    /// The classes of the characters that are not ASCII.
+    wide: Wide,
     asked: Asked,
     unicode: bool,
     fresh: Vec<FreshRow>,
@@ -73,7 +76,8 @@ pub struct Table {
 }
 
 impl Table {
-    ghost use Rattle.fancy_regex_table.specs.Tables.{IsTable, IsSearchOf, IsPassed, Stands, IsStartAt, IsFreshRow, HasColumn, IsOnward, IsRunTo, IsAsciiAt, LiesBetween, IsDoneAt, IsInRange};
+    ghost use Rattle.fancy_regex_table.specs.Tables.{IsTable, IsSearchOf, IsPassed, Stands, IsStartAt, IsFreshRow, HasColumn, IsOnward, IsRunTo, IsLater, IsFreshAt, IsPlaceIn, IsAsciiAt, IsWideTo, LiesAt, IsInRange};
+    ghost use Rattle.fancy_regex_table.specs.Wides.{IsWideAt};
     ghost use Rattle.fancy_regex_table.specs.Cells.{TellsBy};
     ghost use Rattle.fancy_regex_table.specs.Sorts.{sort_at};
     ghost use Rattle.fancy_regex_table.specs.declared.sort.Sort.{Sort as SortValue};
@@ -117,6 +121,7 @@ impl Table {
         Ok(Some(Table {
             cells,
             classes: classes_of(&alphabet.ascii, other),
+            wide: alphabet.wide,
             asked: alphabet.asked,
             unicode,
             fresh,
@@ -159,20 +164,37 @@ impl Table {
             start: from,
             last: from,
         };
-        let place = self.run(text, first, stop);
+        let place = self.run_on(matchers, text, first, stop);
         if place.at >= stop {
             return self.at_stop(place, at_end);
         }
-        self.outcome(text.as_bytes()[place.at], place)
+        self.outcome(matchers, text, place, stop)
+    }
+
+    /// The place to which the characters from this one on lead.
+    #[inline(always)]
+    fn run_on(&self, matchers: &[CharClassMatcher], text: &str, first: Place, stop: usize) -> Place
+        requires place { IsPlaceIn text.now stop first }
+        requires stop { stop ≤ length text.now }
+        ensures run { IsRunTo text.now first stop result }
+        ensures stands { (parts : Parts) (rules : Rules) (s : Search) (table : IsTable parts self.now) → IsSearchOf parts rules s
+            → parts.matchers ≡ matchers.now
+            → s.text ≡ text.now → s.stop ≡ stop → Stands parts.matchers self.now.asked self.now.unicode table.rows s first
+            → Stands parts.matchers self.now.asked self.now.unicode table.rows s result }
+    {
+        let place = self.run(text, first, stop);
+        if place.at < stop && text.as_bytes()[place.at] >= 128 {
+            return self.run_wide(matchers, text, place, stop);
+        }
+        place
     }
 
     /// The place to which the characters from this one on lead, as long as each is ASCII and leads to a row.
     // Not inlined: the loop alone keeps its values in registers.
     #[inline(never)]
     fn run(&self, text: &str, first: Place, stop: usize) -> Place
-        requires order { first.start ≤ first.at }
-        requires range { (first.at ≤ stop) × (stop ≤ length text.now) }
-        requires boundary { IsCharBoundary text.now first.at }
+        requires place { IsPlaceIn text.now stop first }
+        requires stop { stop ≤ length text.now }
         ensures run { IsRunTo text.now first stop result }
         ensures stands { (parts : Parts) (rules : Rules) (s : Search) (table : IsTable parts self.now) → IsSearchOf parts rules s
             → s.text ≡ text.now → s.stop ≡ stop → Stands parts.matchers self.now.asked self.now.unicode table.rows s first
@@ -189,6 +211,59 @@ impl Table {
         place
     }
 
+    /// The place to which the characters from this one on lead, as long as each leads to a row, or is one that is not ASCII after which no
+    /// attempt is under way.
+    // Not inlined: the loop of `run` has no calls, so it keeps no registers for others.
+    #[inline(never)]
+    fn run_wide(
+        &self,
+        matchers: &[CharClassMatcher],
+        text: &str,
+        first: Place,
+        stop: usize,
+    ) -> Place
+        requires place { IsPlaceIn text.now stop first }
+        requires stop { stop ≤ length text.now }
+        ensures run { IsRunTo text.now first stop result }
+        ensures stands { (parts : Parts) (rules : Rules) (s : Search) (table : IsTable parts self.now) → IsSearchOf parts rules s
+            → parts.matchers ≡ matchers.now
+            → s.text ≡ text.now → s.stop ≡ stop → Stands parts.matchers self.now.asked self.now.unicode table.rows s first
+            → Stands parts.matchers self.now.asked self.now.unicode table.rows s result }
+    {
+        let mut place = first;
+        'places: while place.at < stop {
+            match self.next_place(matchers, text, place, stop) {
+                Some(next) => place = next,
+                None => return place,
+            }
+        }
+        place
+    }
+
+    /// The place after the character at this one, if it leads to a row, or is not ASCII and no attempt is under way after it.
+    #[inline(always)]
+    fn next_place(
+        &self,
+        matchers: &[CharClassMatcher],
+        text: &str,
+        place: Place,
+        stop: usize,
+    ) -> Option<Place>
+        requires place { IsPlaceIn text.now stop place }
+        requires inside { (place.at < stop) × (stop ≤ length text.now) }
+        ensures later { IfSome result (IsLater text.now place stop) }
+        ensures stands { (parts : Parts) (rules : Rules) (s : Search) (table : IsTable parts self.now) → IsSearchOf parts rules s
+            → parts.matchers ≡ matchers.now → s.text ≡ text.now → s.stop ≡ stop
+            → Stands parts.matchers self.now.asked self.now.unicode table.rows s place
+            → IfSome result (Stands parts.matchers self.now.asked self.now.unicode table.rows s) }
+    {
+        let byte = text.as_bytes()[place.at];
+        if byte < 128 {
+            return self.step(byte, place);
+        }
+        self.wide_step(matchers, text, place, stop)
+    }
+
     /// The row for a search that begins after this character, by its class where it is ASCII.
     #[inline(always)]
     pub(crate) fn first_row(
@@ -202,7 +277,7 @@ impl Table {
         match before {
             None => self.row_of_class(0),
             Some(c) if (c as u32) < 128 => self.row_of_class(self.classes[c as usize] as usize),
-            _ => self.fresh_row(matchers, before),
+            Some(c) => self.wide_row(matchers, c),
         }
     }
 
@@ -217,6 +292,20 @@ impl Table {
             return self.begins[class];
         }
         None
+    }
+
+    /// The row for a search that begins after this character, which is not ASCII.
+    #[inline(never)]
+    fn wide_row(&self, matchers: &[CharClassMatcher], c: char) -> Option<u32>
+        requires { 128 ≤ c }
+        ensures { (parts : Parts) → IsTable parts self.now → parts.matchers ≡ matchers.now
+            → IfSome result (IsFreshRow self.now.fresh.items (sort_at parts.matchers self.now.asked self.now.unicode (Some c))) }
+    {
+        let class = self.wide.class_of(matchers, self.unicode, c);
+        if class > 0 {
+            return self.row_of_class(class as usize);
+        }
+        self.fresh_row(matchers, Some(c))
     }
 
     /// The row for a search that begins after this character.
@@ -251,7 +340,7 @@ impl Table {
         requires { place.start ≤ place.at }
         ensures passed { (parts : Parts) (s : Search) (table : IsTable parts self.now)
             → Stands parts.matchers self.now.asked self.now.unicode table.rows s place → IsPassed s result }
-        ensures between { LiesBetween place result }
+        ensures lies { LiesAt place result }
     {
         Passed::Unknown {
             from: self.start_at(place),
@@ -265,7 +354,7 @@ impl Table {
         ensures passed { (parts : Parts) (s : Search) (table : IsTable parts self.now) (after : SortValue) (next : ℕ)
             → Stands parts.matchers self.now.asked self.now.unicode table.rows s place
             → TellsBy s table.rows after place.at next place.start place.last cell → IsPassed s result }
-        ensures between { LiesBetween place result }
+        ensures lies { LiesAt place result }
     {
         match cell {
             Cell::Empty => Passed::Match {
@@ -293,7 +382,7 @@ impl Table {
         ensures passed { (parts : Parts) (rules : Rules) (s : Search) (table : IsTable parts self.now) → IsSearchOf parts rules s
             → place.at ≡ s.stop → (at_end ≡ true → s.stop ≡ length s.text)
             → Stands parts.matchers self.now.asked self.now.unicode table.rows s place → IsPassed s result }
-        ensures between { LiesBetween place result }
+        ensures lies { LiesAt place result }
     {
         if !at_end {
             return self.unknown(place);
@@ -326,21 +415,130 @@ impl Table {
         }
     }
 
-    /// What is told at the place where a run ends, before a character whose first byte this is.
-    pub(crate) fn outcome(&self, byte: u8, place: Place) -> Passed
-        requires next { place.at + 1 < 2 ^ 64 }
-        requires order { place.start ≤ place.at }
-        ensures done { IsDoneAt place byte result }
+    /// The character at this place, which is not ASCII; its class is 0 where none is known, or where it ends after `stop`.
+    #[inline(always)]
+    pub(crate) fn wide_char(
+        &self,
+        matchers: &[CharClassMatcher],
+        text: &str,
+        at: usize,
+        stop: usize,
+    ) -> WideChar
+        requires { IsWideAt text.now at }
+        ensures { IsWideTo self.now.unicode matchers.now self.now.wide text.now at stop result }
+    {
+        let c = self.wide.decode(matchers, self.unicode, text, at);
+        if c.next > stop {
+            return WideChar {
+                class: 0,
+                next: c.next,
+            };
+        }
+        c
+    }
+
+    /// The place after the character at this one, which is not ASCII, if it leads to a row, or no attempt is under way after it.
+    #[inline(always)]
+    fn wide_step(
+        &self,
+        matchers: &[CharClassMatcher],
+        text: &str,
+        place: Place,
+        stop: usize,
+    ) -> Option<Place>
+        requires place { IsPlaceIn text.now stop place }
+        requires wide { IsWideAt text.now place.at }
+        ensures later { IfSome result (IsLater text.now place stop) }
+        ensures stands { (parts : Parts) (rules : Rules) (s : Search) (table : IsTable parts self.now) → IsSearchOf parts rules s
+            → parts.matchers ≡ matchers.now → s.text ≡ text.now → s.stop ≡ stop
+            → Stands parts.matchers self.now.asked self.now.unicode table.rows s place
+            → IfSome result (Stands parts.matchers self.now.asked self.now.unicode table.rows s) }
+    {
+        let c = self.wide_char(matchers, text, place.at, stop);
+        if c.class == 0 {
+            return None;
+        }
+        match cell_at(&self.cells, c.class as u32, place.row) {
+            Cell::Next { begins, ends, row } => Some(Place {
+                row,
+                at: c.next,
+                start: begun_at(begins, place.at, place.start),
+                last: begun_at(ends, place.at, place.last),
+            }),
+            Cell::Idle => self.fresh_place(c),
+            _ => None,
+        }
+    }
+
+    /// The place after the character where no attempt is under way, if there is a row for searches that begin there.
+    #[inline(always)]
+    fn fresh_place(&self, c: WideChar) -> Option<Place>
+        ensures place { IfSome result (IsFreshAt c.next) }
+        ensures row { (parts : Parts) (table : IsTable parts self.now) (d : Option ℕ)
+            → HasColumn parts table.columns self.now.asked d c.class
+            → IfSome result (λ place. IsFreshRow self.now.fresh.items
+            (sort_at parts.matchers self.now.asked self.now.unicode d) place.row) }
+    {
+        match self.row_of_class(c.class as usize) {
+            Some(row) => Some(Place {
+                row,
+                at: c.next,
+                start: c.next,
+                last: c.next,
+            }),
+            None => None,
+        }
+    }
+
+    /// What is told at the place where a run ends, before a character.
+    pub(crate) fn outcome(
+        &self,
+        matchers: &[CharClassMatcher],
+        text: &str,
+        place: Place,
+        stop: usize,
+    ) -> Passed
+        requires place { IsPlaceIn text.now stop place }
+        requires inside { (place.at < stop) × (stop ≤ length text.now) }
+        ensures range { IsInRange text.now place.start stop result }
         ensures passed { (parts : Parts) (rules : Rules) (s : Search) (table : IsTable parts self.now) → IsSearchOf parts rules s
-            → (byte < 128 → IsAsciiAt s.text place.at byte) → place.at < s.stop
+            → parts.matchers ≡ matchers.now → s.text ≡ text.now → s.stop ≡ stop
             → Stands parts.matchers self.now.asked self.now.unicode table.rows s place → IsPassed s result }
     {
+        let byte = text.as_bytes()[place.at];
         if byte >= 128 {
-            return self.unknown(place);
+            return self.wide_outcome(matchers, text, place, stop);
         }
         let cell = cell_at(&self.cells, self.classes[byte as usize], place.row);
         match cell {
             Cell::Idle => Passed::Idle { at: place.at + 1 },
+            _ => self.ended(cell, place),
+        }
+    }
+
+    /// The same before a character that is not ASCII.
+    #[inline(never)]
+    fn wide_outcome(
+        &self,
+        matchers: &[CharClassMatcher],
+        text: &str,
+        place: Place,
+        stop: usize,
+    ) -> Passed
+        requires place { IsPlaceIn text.now stop place }
+        requires wide { IsWideAt text.now place.at }
+        ensures range { IsInRange text.now place.start stop result }
+        ensures passed { (parts : Parts) (rules : Rules) (s : Search) (table : IsTable parts self.now) → IsSearchOf parts rules s
+            → parts.matchers ≡ matchers.now → s.text ≡ text.now → s.stop ≡ stop
+            → Stands parts.matchers self.now.asked self.now.unicode table.rows s place → IsPassed s result }
+    {
+        let c = self.wide_char(matchers, text, place.at, stop);
+        if c.class == 0 {
+            return self.unknown(place);
+        }
+        let cell = cell_at(&self.cells, c.class as u32, place.row);
+        match cell {
+            Cell::Idle => Passed::Idle { at: c.next },
             _ => self.ended(cell, place),
         }
     }

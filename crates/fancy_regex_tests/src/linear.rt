@@ -5,7 +5,7 @@ use std::alloc::Global;
 use std::test::Fail;
 
 /// Patterns, and whether their regexes are linear.
-static PATTERNS: [(&str, bool); 28] = [
+static PATTERNS: [(&str, bool); 33] = [
     ("a+b", true),
     (r"\bfoo\b", true),
     ("(a)(b|c)*", true),
@@ -23,6 +23,9 @@ static PATTERNS: [(&str, bool); 28] = [
     (r"a\R", true),
     ("(?=a)a{100}", true),
     ("(?:x(?=(a))){0}b", true),
+    ("(?((?=a))ab|c)", true),
+    ("(?((?(a)b|c))d|(e))", true),
+    (r"(?(DEFINE)(a)\1)b", true),
     ("(?=a)a{5000}", false),
     (r"(a)\1", false),
     ("(?=(a))b", true),
@@ -34,6 +37,8 @@ static PATTERNS: [(&str, bool); 28] = [
     (r"\Ga", false),
     (r"(a)\g<1>", false),
     ("(a)?(?(1)b|c)", false),
+    (r"(a)(?(b)c|\1)", false),
+    (r"(?(DEFINE)(a))\g<1>", false),
 ];
 
 /// Whether the regex of a pattern is linear, with these options.

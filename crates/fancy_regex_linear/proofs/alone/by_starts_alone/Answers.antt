@@ -38,13 +38,6 @@ returns-in_default c =
 range_of : (c : After-pass_counted) → IsInRange (looked_text c.args.text.now) c.in-Some.start c.args.context.now.stop c.pass_counted.result
 range_of c = rw c.requires.table.text_is at c.pass_counted.ensures.range
 
-pub returns-then-not-is_ascii : goal.returns-then-not-is_ascii
-returns-then-not-is_ascii c =
-    let at = here (goal.at.returns-then-not-is_ascii c).In-Some in
-    unknown_says c.args.context.now c.args.text.now c.pass_over.new.text c.args.from c.in-Some.start c.in-Some.start (c.in-Some.start, c.in-Some.after) c.unknown.result c.requires.text
-    c.requires.range.1 at (omega arith, omega arith, at.range.1) (λ view go explains p low less boundary. absurd (omega (arith, low, less)))
-    (λ i low high. let same : c.in-Some.start ≡ i = omega (arith, low, high) in subst (IsCharBoundary (looked_text c.args.text.now)) same at.boundary) c.unknown.ensures
-
 pub returns-in-Match : goal.returns-in-Match
 returns-in-Match c =
     let at = here (goal.at.returns-in-Match c).In-Some in
@@ -132,11 +125,11 @@ returns-in-Unknown c =
     let from : ℕ = c.in-Unknown.from in
     let read : ℕ = c.in-Unknown.read in
     let range : IsInRange text start context.stop (P.Unknown from read) = rw by.text_is at c.in-Unknown.ensures.range in
-    subst (λ (t : Counted). AloneSays context c.args.text.now t c.args.from c.unknown-in-Unknown.result) (sym c.in-Unknown.ensures.looks)
-    (unknown_says context c.args.text.now c.pass_over.new.text c.args.from from read (start, c.in-Some.after) c.unknown-in-Unknown.result c.requires.text c.requires.range.1 at
+    subst (λ (t : Counted). AloneSays context c.args.text.now t c.args.from c.unknown.result) (sym c.in-Unknown.ensures.looks)
+    (unknown_says context c.args.text.now c.pass_over.new.text c.args.from from read (start, c.in-Some.after) c.unknown.result c.requires.text c.requires.range.1 at
     (range.0, range.1, range.2)
     (λ view go explains.
     fail_by context text c.args.it by view go explains start from
     (λ t. (c.in-Unknown.ensures.passed (parts_of context) context.rules (search_of context text c.args.it by view go explains start) t
     (is_search context text c.args.it by view go explains start c.requires.text c.requires.range.1) refl (sym by.text_is) refl refl).early))
-    range.3 c.unknown-in-Unknown.ensures)
+    (range.3, range.4) c.unknown.ensures)

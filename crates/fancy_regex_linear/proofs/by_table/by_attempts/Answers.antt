@@ -1,4 +1,4 @@
-use Rattle.std.proofs.Common.{◌≡◌, ◌∙◌, ◌+◌, ◌-◌, ◌^◌, ◌≤◌, ◌∷◌, ℕ, false, min, IfSome, refl, sym, arith}
+use Rattle.std.proofs.Common.{◌≡◌, ◌∙◌, ◌+◌, ◌-◌, ◌^◌, ◌≤◌, ◌∷◌, ℕ, List, false, min, IfSome, IsCharBoundary, refl, sym, subst, arith}
 use Rattle.fancy_regex_class.specs.Looks.{looked_text, look_count}
 use Rattle.fancy_regex_linear.specs.Find.{places, places_from}
 use Rattle.fancy_regex_linear.specs.Starts.{IsAfter}
@@ -31,7 +31,7 @@ returns-in-Some-clause-settled c span_only =
           let start : ℕ = c.in-Some.start in
           let slots = new.backtrack.slots.items in
           let says = found_says context text place memory c.requires.start go start (record { at = c.in-Some.end; slots = slots }) (omega (arith, tried.range.0, c.requires.range.0)) (omega (arith, tried.range.1, c.requires.range))
-          (c.requires.boundaries start (omega (arith, tried.range.0, c.requires.range.0)) tried.range.1)
+          tried.range.2
           (fail_on context text go place.at c.args.from start early found.0) (sym found.1) in
           let counts = looks d in (
             record { found_slots = slots; is = sym says.0; same_slots = λ _. refl },
@@ -53,7 +53,7 @@ returns-in-None-clause-settled c span_only =
     let next = c.start_after-next.result in
     let high : read ≤ stop = c.requires.range.3 in
     let low : place.at ≤ read = omega (arith, c.requires.range.2) in
-    let boundary = c.requires.boundaries read low (omega arith) in
+    let boundary = subst (λ (t : List ℕ). IsCharBoundary t read) c.requires.shown c.requires.boundaries.1 in
     let attempt = c.first_tried.ensures.attempt in
     let tried = rw (text_is d, c.in-None.is) at c.in_ok-start.ensures.tried in
     let counts = looks d in

@@ -1,4 +1,4 @@
-use Rattle.std.proofs.Common.{◌≡◌, ◌-◌, ◌≤◌, ℕ}
+use Rattle.std.proofs.Common.{◌≡◌, ◌-◌, ◌≤◌, ℕ, IsCharBoundary}
 use Rattle.fancy_regex_class.specs.Looks.{looked_text}
 use Rattle.fancy_regex_states.specs.Attempts.{View, Continuation}
 use Rattle.fancy_regex_linear.specs.Visited.{Has}
@@ -10,6 +10,7 @@ use Rattle.fancy_regex_linear.proofs.by_table.first_tried.Given as goal
 abbrev pub invariant-starts : goal.invariant-starts
 invariant-starts l = record {
   range : (l.from ≤ l.start) × (l.start ≤ l.last);
+  boundary : IsCharBoundary (looked_text l.fn.text) l.start;
   found : (view : View) (go : ℕ → Continuation) → Explains l.context (looked_text l.fn.text) view go → AllFail view.longest go (Has l.fn.memory.visited)
       → AllFail view.longest go (Has l.memory.visited) × (l.memory.backtrack.slots.items ≡ l.fn.memory.backtrack.slots.items)
       × FailBetween l.context (looked_text l.fn.text) go l.from l.start;

@@ -12,25 +12,25 @@ use Rattle.fancy_regex_linear.specs.Verdicts.{IsPassedOver}
 use Rattle.fancy_regex_linear.proofs.SettleLemmas.{search_of, is_search, fail_by}
 use Rattle.fancy_regex_linear.proofs.VerdictLemmas.{some_by, none_by, on_by}
 use Rattle.fancy_regex_linear.proofs.verdict.table_verdict.Goals as goal
-use Rattle.fancy_regex_linear.proofs.verdict.table_verdict.Goals.{After-is_wide}
+use Rattle.fancy_regex_linear.proofs.verdict.table_verdict.Goals.{In-Some}
 
-abbrev text_of : After-is_wide → List ℕ
+abbrev text_of : In-Some → List ℕ
 text_of c = looked_text c.args.text.now
 
 -- the table tells of the whole text
-whole : (c : After-is_wide) → c.args.context.now.stop ≡ length c.args.it.text.now
+whole : (c : In-Some) → c.args.context.now.stop ≡ length c.args.it.text.now
 whole c = c.requires.table.whole ∙ ap length (sym c.requires.table.text_is)
 
 -- where the pass begins
-record Here (c : After-is_wide) : Type 0 where
+record Here (c : In-Some) : Type 0 where
   pub range : (c.starts.at ≤ c.in-Some.start) × (c.in-Some.start ≤ c.args.context.now.stop) × IsCharBoundary (text_of c) c.in-Some.start
   pub fails : IsPassedOver c.args.context.now (text_of c) c.starts.at (Some c.in-Some.start)
 
-here : (c : After-is_wide) → Here c
+here : (c : In-Some) → Here c
 here c = record { range = rw c.starts.invariant.text at c.in-Some.ensures.range; fails = rw c.starts.invariant.text at c.in-Some.ensures.passed }
 
 -- no match starts before it
-earlier : (c : After-is_wide) (view : View) (go : ℕ → Continuation) → Explains c.args.context.now (text_of c) view go → (slots : List ℕ)
+earlier : (c : In-Some) (view : View) (go : ℕ → Continuation) → Explains c.args.context.now (text_of c) view go → (slots : List ℕ)
     → earliest (spot_from go c.args.context.now.entry slots) (places (text_of c) false c.args.from c.args.context.now.stop)
     ≡ earliest (spot_from go c.args.context.now.entry slots) (places (text_of c) false c.in-Some.start c.args.context.now.stop)
 earlier c view go explains slots =
@@ -48,17 +48,9 @@ returns-in_default-clause-verdict c view go explains slots =
     ap is_some (inv.passed view go explains slots)
     ∙ none_by context text c.args.it c.requires.table view go explains slots c.starts.at inv.boundary inv.range.1 c.requires.range.1 (over view go explains)
 
-pub returns-then-is_wide-clause-verdict : goal.returns-then-is_wide-clause-verdict
-returns-then-is_wide-clause-verdict c view go explains slots = earlier (goal.at.returns-then-is_wide-clause-verdict c).After-is_wide view go explains slots
-
-pub returns-then-is_wide-clause-range : goal.returns-then-is_wide-clause-range
-returns-then-is_wide-clause-range c =
-    let at = here (goal.at.returns-then-is_wide-clause-range c).After-is_wide in
-    (omega (arith, c.starts.invariant.range.0, at.range.0), at.range.1, at.range.2)
-
 pub returns-in-Match-clause-verdict : goal.returns-in-Match-clause-verdict
 returns-in-Match-clause-verdict c view go explains slots =
-    let d = (goal.at.returns-in-Match-clause-verdict c).After-is_wide in
+    let d = (goal.at.returns-in-Match-clause-verdict c).In-Some in
     let context = c.args.context.now in
     let text = looked_text c.args.text.now in
     let by = c.requires.table in
@@ -70,7 +62,7 @@ returns-in-Match-clause-verdict c view go explains slots =
 
 pub returns-in-Ended-clause-verdict : goal.returns-in-Ended-clause-verdict
 returns-in-Ended-clause-verdict c view go explains slots =
-    let d = (goal.at.returns-in-Ended-clause-verdict c).After-is_wide in
+    let d = (goal.at.returns-in-Ended-clause-verdict c).In-Some in
     let context = c.args.context.now in
     let text = looked_text c.args.text.now in
     let by = c.requires.table in
@@ -84,7 +76,7 @@ returns-in-Ended-clause-verdict c view go explains slots =
 
 pub starts-preserved : goal.starts-preserved
 starts-preserved c =
-    let d = (goal.at.starts-preserved c).After-is_wide in
+    let d = (goal.at.starts-preserved c).In-Some in
     let context = c.args.context.now in
     let text = looked_text c.args.text.now in
     let by = c.requires.table in
@@ -107,7 +99,7 @@ starts-preserved c =
 
 pub returns-in-Unknown-clause-verdict : goal.returns-in-Unknown-clause-verdict
 returns-in-Unknown-clause-verdict c view go explains slots =
-    let d = (goal.at.returns-in-Unknown-clause-verdict c).After-is_wide in
+    let d = (goal.at.returns-in-Unknown-clause-verdict c).In-Some in
     let context = c.args.context.now in
     let text = looked_text c.args.text.now in
     let by = c.requires.table in

@@ -1,11 +1,38 @@
-use Rattle.std.proofs.Common.{List, true, false, length, refl, sym, subst, arith}
+use Rattle.std.proofs.Common.{◌∙◌, List, true, false, length, refl, sym, subst, arith}
 use Rattle.fancy_regex_class.specs.Looks.{looked_text}
 use Rattle.fancy_regex_parts.specs.Ways.{ways_of, text_view}
 use Rattle.fancy_regex_parts.specs.Walk.{IsArrival, IsWalking, last_first}
 use Rattle.fancy_regex_parts.specs.declared.groups.WalkTask.{WalkTask}
 use Rattle.fancy_regex_parts.proofs.VisitLemmas.{right_at}
-use Rattle.fancy_regex_parts.proofs.WalkLemmas.{has_ways, walks_on, walks_past, arrived_within, went_less, past_less, cost_cheap, owed_cheap, one_less, no_more}
+use Rattle.fancy_regex_parts.proofs.WalkLemmas.{has_ways, walks_on, walks_past, wrote_none, rest_less, arrived_within, went_less, past_less, cost_cheap, owed_cheap, one_less, no_more}
+use Rattle.fancy_regex_parts.proofs.WriteLemmas.{writes_nothing}
+use Rattle.fancy_regex_parts.specs.declared.groups.WalkTask.TheVariants.{Follow}
 use Rattle.fancy_regex_parts.proofs.groups.pass.Goals as goal
+
+pub returns-then-not-may_write-clause-walking : goal.returns-then-not-may_write-clause-walking
+returns-then-not-may_write-clause-walking c view go tried true_of target slots h =
+    let context = c.args.context.now in
+    let table = context.table.now in
+    let text = looked_text c.args.text.now in
+    let none = writes_nothing view (length text) context.stop table.states.items go tried.does table.writes.items
+    (λ q low. (right_at table q c.requires.ready.table low).no_write) c.args.state c.args.at c.requires.reached.state c.requires.reached.place.boundary.0
+    (sym c.may_write.ensures ∙ c.if-not-may_write.true) in
+    wrote_none go table.heads.items c.args.walked.now.visited.base c.args.walked.now.visited target slots c.args.state c.args.at
+    (last_first c.args.walked.now.tasks.items) none h
+
+pub returns-then-not-may_write-clause-progress : goal.returns-then-not-may_write-clause-progress
+returns-then-not-may_write-clause-progress c =
+    let visited = c.args.walked.now.visited in
+    let less = rest_less c.args.context.now.table.now (Follow c.args.state c.args.at) (last_first c.args.walked.now.tasks.items)
+    (length (looked_text c.args.text.now)) visited.base visited in
+    omega (arith, less)
+
+pub returns-then-not-may_write-clause-counted : goal.returns-then-not-may_write-clause-counted
+returns-then-not-may_write-clause-counted c dear most cheap =
+    let visited = c.args.walked.now.visited in
+    let less = rest_less c.args.context.now.table.now (Follow c.args.state c.args.at) (last_first c.args.walked.now.tasks.items)
+    (length (looked_text c.args.text.now)) visited.base visited in
+    omega (arith, no_more dear _ _ less)
 
 pub returns-then-not-branch-clause-walking : goal.returns-then-not-branch-clause-walking
 returns-then-not-branch-clause-walking c view go tried true_of target slots h =

@@ -111,6 +111,18 @@ returns-in-None-clause-bound c =
     let more = place_more (c.starts.at - c.args.from) (c.args.last - c.args.from + 1) (due c.args.context.now.table.now c.args.context.now.entry + 1) (omega (arith, invariant.range)) in
     omega (arith, invariant.looked, here, c.place_after.ensures.looked.at_most, more)
 
+pub returns-in-Some-clause-counted : goal.returns-in-Some-clause-counted
+returns-in-Some-clause-counted c =
+    let invariant = c.starts.invariant in
+    let more = place_more (c.starts.at - c.args.from) (c.starts.at - c.args.from + 1) (due c.args.context.now.table.now c.args.context.now.entry + 1) (omega arith) in
+    omega (arith, invariant.looked, c.in_ok-end.ensures.counted, more)
+
+pub returns-in-None-clause-counted : goal.returns-in-None-clause-counted
+returns-in-None-clause-counted c =
+    let invariant = c.starts.invariant in
+    let more = place_more (c.starts.at - c.args.from) (c.args.last - c.args.from + 1) (due c.args.context.now.table.now c.args.context.now.entry + 1) (omega (arith, invariant.range)) in
+    omega (arith, invariant.looked, c.in_ok-end.ensures.counted, c.place_after.ensures.looked.at_most, more)
+
 pub returns-in-Some-clause-at_least : goal.returns-in-Some-clause-at_least
 returns-in-Some-clause-at_least c =
     let text : List ℕ = looked_text c.args.text.now in

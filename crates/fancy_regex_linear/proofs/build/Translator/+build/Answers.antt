@@ -1,17 +1,18 @@
-use Rattle.std.proofs.Common.{◌≡◌, ℕ, vec_len, Bool, true, false, ◌==◌, ap₂, ◌∙◌, ◌∷◌, [], ◌&&◌, ◌||◌, not, length, map, ap, sym, refl, rules, arith}
-use Rattle.fancy_regex_tree.specs.Tree.{tree_of, concat, alt}
+use Rattle.std.proofs.Common.{◌≡◌, ℕ, vec_len, Bool, true, false, ◌==◌, ap₂, ◌∙◌, ◌∷◌, [], List, ◌&&◌, ◌||◌, not, length, map, ap, sym, refl, rules, arith}
+use Rattle.fancy_regex_tree.specs.Tree.{Tree, tree_of, concat, alt, conditional}
 use Rattle.fancy_regex_linear.specs.Re as re
 use Rattle.fancy_regex_linear.specs.Re.{Re, shape, shapes, cats, alts}
+use Rattle.fancy_regex_meaning.specs.Groups.{group_count}
 use Rattle.fancy_regex_meaning.specs.Sizes.{may_be_empty}
 use Rattle.fancy_regex_linear.specs.Program.{never_empty}
-use Rattle.fancy_regex_linear.specs.Plain.{classes, re_of}
+use Rattle.fancy_regex_linear.specs.Plain.{IsRegular, classes, re_of}
 use Rattle.fancy_regex_linear.specs.Refusals.{IsClassCause}
 use Rattle.fancy_regex_linear.specs.Translation.{all_trees, all_move}
 use Rattle.fancy_regex_linear.proofs.PlainLemmas.{one_char_groups, one_char_classes, body_regular, sound_asking, never_asking, flag_is}
-use Rattle.fancy_regex_linear.proofs.BuildLemmas.{extends_none, look_is, asking_is, row_none, row_sound, branches_sound, cause_in_row, if_ok, nodes_step, row_whole, row_is, branches_is, row_moves, all_moves, branches_move}
+use Rattle.fancy_regex_linear.proofs.BuildLemmas.{extends_none, look_is, asking_is, row_none, row_sound, branches_sound, cause_in_row, if_ok, nodes_step, row_whole, row_is, branches_is, row_moves, all_moves, branches_move, conditional_matchers, conditional_shape, cause_in_condition, cause_in_yes, cause_in_no}
 use Rattle.fancy_regex_linear.proofs.NoClassLemmas.{NoClass, no_classes}
 use Rattle.std.proofs.lemmas.List.{map-append, length-map}
-use Rattle.fancy_regex_linear.proofs.ShapeLemmas.{tree_concat, tree_alt, shape_concat, shape_alt, shape_repeat}
+use Rattle.fancy_regex_linear.proofs.ShapeLemmas.{tree_concat, tree_alt, shape_concat, shape_alt, shape_repeat, tree_conditional}
 use Rattle.fancy_regex_linear.proofs.build.Translator.+build.Goals as goal
 use Rattle.fancy_regex_linear.proofs.build.Translator.+build.Goals.{row-then-moves, row-else-moves, branches-then-moves, branches-else-moves, branches-then-moves-2, branches-else-moves-2}
 
@@ -39,6 +40,7 @@ translated-returns-in_default-clause-matchers t c =
       look_around = c.in_default.not-LookAround;
       repeat = c.in_default.not-Repeat;
       atomic = c.in_default.not-AtomicGroup;
+      conditional = c.in_default.not-Conditional;
     } in
     extends_none c.args.self.now.unicode c.args.self.now.matchers.items (classes (tree_of c.args.expr.now)) (no_classes c.args.expr.now other)
 
@@ -214,3 +216,76 @@ look_around-returns-clause-shape t c = λ regular groups.
     asking_is unicode groups n k (tree_of c.args.child.now) c.args.look (shape c.still-2.result.node) (shape c.in_ok-body.body.value)
     (c.is_one_char.ensures.none c.if-is_one_char.false unicode k) (ap shape c.still-2.ensures.0 ∙ c.asking_node.ensures)
     (λ body. ap shape c.in_ok-body.ensures ∙ c.in_ok-translated.ensures.shape body groups) regular
+
+pub translated-returns-in_ok-made-in-Conditional-clause-matchers : goal.translated-returns-in_ok-made-in-Conditional-clause-matchers
+unfolding classes
+translated-returns-in_ok-made-in-Conditional-clause-matchers t c =
+    let box_1 : c.deref-in-Conditional.result.now ≡ c.in-Conditional.condition.value = search rules in
+    let box_2 : c.deref-in-Conditional-2.result.now ≡ c.in-Conditional.true_branch.value = search rules in
+    let box_3 : c.deref-in-Conditional-3.result.now ≡ c.in-Conditional.false_branch.value = search rules in
+    let e : tree_of c.args.expr.now ≡ conditional (tree_of c.deref-in-Conditional.result.now) (tree_of c.deref-in-Conditional-2.result.now) (tree_of c.deref-in-Conditional-3.result.now) =
+    ap tree_of c.in-Conditional.is ∙ tree_conditional c.in-Conditional.condition c.in-Conditional.true_branch c.in-Conditional.false_branch
+    ∙ ap (λ x. conditional (tree_of x) (tree_of c.in-Conditional.true_branch.value) (tree_of c.in-Conditional.false_branch.value)) (sym box_1)
+    ∙ ap (λ x. conditional (tree_of c.deref-in-Conditional.result.now) (tree_of x) (tree_of c.in-Conditional.false_branch.value)) (sym box_2)
+    ∙ ap (λ x. conditional (tree_of c.deref-in-Conditional.result.now) (tree_of c.deref-in-Conditional-2.result.now) (tree_of x)) (sym box_3) in
+    rw e
+    (conditional_matchers _ _ _ _ _ _ (tree_of c.deref-in-Conditional.result.now) (tree_of c.deref-in-Conditional-2.result.now) (tree_of c.deref-in-Conditional-3.result.now)
+    c.in_ok-asked-in-Conditional.ensures.unicode c.in_ok-first-in-Conditional.ensures.unicode _ c.in_ok-asked-in-Conditional.ensures.matchers c.in_ok-first-in-Conditional.ensures.matchers c.in_ok-second-in-Conditional.ensures.matchers)
+
+pub translated-returns-in_ok-made-in-Conditional-clause-shape : goal.translated-returns-in_ok-made-in-Conditional-clause-shape
+translated-returns-in_ok-made-in-Conditional-clause-shape t c =
+    let box_1 : c.deref-in-Conditional.result.now ≡ c.in-Conditional.condition.value = search rules in
+    let box_2 : c.deref-in-Conditional-2.result.now ≡ c.in-Conditional.true_branch.value = search rules in
+    let box_3 : c.deref-in-Conditional-3.result.now ≡ c.in-Conditional.false_branch.value = search rules in
+    let e : tree_of c.args.expr.now ≡ conditional (tree_of c.deref-in-Conditional.result.now) (tree_of c.deref-in-Conditional-2.result.now) (tree_of c.deref-in-Conditional-3.result.now) =
+    ap tree_of c.in-Conditional.is ∙ tree_conditional c.in-Conditional.condition c.in-Conditional.true_branch c.in-Conditional.false_branch
+    ∙ ap (λ x. conditional (tree_of x) (tree_of c.in-Conditional.true_branch.value) (tree_of c.in-Conditional.false_branch.value)) (sym box_1)
+    ∙ ap (λ x. conditional (tree_of c.deref-in-Conditional.result.now) (tree_of x) (tree_of c.in-Conditional.false_branch.value)) (sym box_2)
+    ∙ ap (λ x. conditional (tree_of c.deref-in-Conditional.result.now) (tree_of c.deref-in-Conditional-2.result.now) (tree_of x)) (sym box_3) in
+    rw e (λ (regular : IsRegular (conditional (tree_of c.deref-in-Conditional.result.now) (tree_of c.deref-in-Conditional-2.result.now) (tree_of c.deref-in-Conditional-3.result.now))) (groups : List Tree).
+    c.in_ok-made-in-Conditional.ensures.shape
+    ∙ conditional_shape _ _ _ _ _ _ (tree_of c.deref-in-Conditional.result.now) (tree_of c.deref-in-Conditional-2.result.now) (tree_of c.deref-in-Conditional-3.result.now)
+    c.in_ok-asked-in-Conditional.ensures.unicode c.in_ok-first-in-Conditional.ensures.unicode _ _ _
+    (shape c.in_ok-asked-in-Conditional.asked.node) (shape c.in_ok-first-in-Conditional.first.node) (shape c.in_ok-second-in-Conditional.second.node) regular
+    c.in_ok-asked-in-Conditional.ensures.groups c.in_ok-first-in-Conditional.ensures.groups c.in_ok-asked-in-Conditional.ensures.matchers c.in_ok-first-in-Conditional.ensures.matchers
+    c.in_ok-asked-in-Conditional.ensures.shape c.in_ok-first-in-Conditional.ensures.shape c.in_ok-second-in-Conditional.ensures.shape groups)
+
+pub translated-returns-in_err-asked-in-Conditional-clause-refused : goal.translated-returns-in_err-asked-in-Conditional-clause-refused
+unfolding classes
+translated-returns-in_err-asked-in-Conditional-clause-refused t c =
+    let box_1 : c.deref-in-Conditional.result.now ≡ c.in-Conditional.condition.value = search rules in
+    let e : tree_of c.args.expr.now ≡ conditional (tree_of c.deref-in-Conditional.result.now) (tree_of c.in-Conditional.true_branch.value) (tree_of c.in-Conditional.false_branch.value) =
+    ap tree_of c.in-Conditional.is ∙ tree_conditional c.in-Conditional.condition c.in-Conditional.true_branch c.in-Conditional.false_branch
+    ∙ ap (λ x. conditional (tree_of x) (tree_of c.in-Conditional.true_branch.value) (tree_of c.in-Conditional.false_branch.value)) (sym box_1) in
+    let all : IsClassCause c.args.self.now.unicode (classes (tree_of c.args.expr.now)) c.in_err-asked-in-Conditional.field-0.0 =
+    rw e (cause_in_condition c.args.self.now.unicode (classes (tree_of c.deref-in-Conditional.result.now)) (classes (tree_of c.in-Conditional.true_branch.value)) (classes (tree_of c.in-Conditional.false_branch.value))
+    c.in_err-asked-in-Conditional.field-0.0 c.in_err-asked-in-Conditional.ensures.refused) in
+    search rules
+
+pub translated-returns-in_err-first-in-Conditional-clause-refused : goal.translated-returns-in_err-first-in-Conditional-clause-refused
+unfolding classes
+translated-returns-in_err-first-in-Conditional-clause-refused t c =
+    let box_2 : c.deref-in-Conditional-2.result.now ≡ c.in-Conditional.true_branch.value = search rules in
+    let e : tree_of c.args.expr.now ≡ conditional (tree_of c.in-Conditional.condition.value) (tree_of c.deref-in-Conditional-2.result.now) (tree_of c.in-Conditional.false_branch.value) =
+    ap tree_of c.in-Conditional.is ∙ tree_conditional c.in-Conditional.condition c.in-Conditional.true_branch c.in-Conditional.false_branch
+    ∙ ap (λ x. conditional (tree_of c.in-Conditional.condition.value) (tree_of x) (tree_of c.in-Conditional.false_branch.value)) (sym box_2) in
+    let cause : IsClassCause c.args.self.now.unicode (classes (tree_of c.deref-in-Conditional-2.result.now)) c.in_err-first-in-Conditional.field-0.0 =
+    rw c.in_ok-asked-in-Conditional.ensures.unicode at c.in_err-first-in-Conditional.ensures.refused in
+    let all : IsClassCause c.args.self.now.unicode (classes (tree_of c.args.expr.now)) c.in_err-first-in-Conditional.field-0.0 =
+    rw e (cause_in_yes c.args.self.now.unicode (classes (tree_of c.in-Conditional.condition.value)) (classes (tree_of c.deref-in-Conditional-2.result.now)) (classes (tree_of c.in-Conditional.false_branch.value))
+    c.in_err-first-in-Conditional.field-0.0 cause) in
+    search rules
+
+pub translated-returns-in_err-second-in-Conditional-clause-refused : goal.translated-returns-in_err-second-in-Conditional-clause-refused
+unfolding classes
+translated-returns-in_err-second-in-Conditional-clause-refused t c =
+    let box_3 : c.deref-in-Conditional-3.result.now ≡ c.in-Conditional.false_branch.value = search rules in
+    let e : tree_of c.args.expr.now ≡ conditional (tree_of c.in-Conditional.condition.value) (tree_of c.in-Conditional.true_branch.value) (tree_of c.deref-in-Conditional-3.result.now) =
+    ap tree_of c.in-Conditional.is ∙ tree_conditional c.in-Conditional.condition c.in-Conditional.true_branch c.in-Conditional.false_branch
+    ∙ ap (λ x. conditional (tree_of c.in-Conditional.condition.value) (tree_of c.in-Conditional.true_branch.value) (tree_of x)) (sym box_3) in
+    let cause : IsClassCause c.args.self.now.unicode (classes (tree_of c.deref-in-Conditional-3.result.now)) c.in_err-second-in-Conditional.field-0.0 =
+    rw (c.in_ok-first-in-Conditional.ensures.unicode ∙ c.in_ok-asked-in-Conditional.ensures.unicode) at c.in_err-second-in-Conditional.ensures.refused in
+    let all : IsClassCause c.args.self.now.unicode (classes (tree_of c.args.expr.now)) c.in_err-second-in-Conditional.field-0.0 =
+    rw e (cause_in_no c.args.self.now.unicode (classes (tree_of c.in-Conditional.condition.value)) (classes (tree_of c.in-Conditional.true_branch.value)) (classes (tree_of c.deref-in-Conditional-3.result.now))
+    c.in_err-second-in-Conditional.field-0.0 cause) in
+    search rules

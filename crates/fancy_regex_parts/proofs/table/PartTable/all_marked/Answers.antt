@@ -33,6 +33,7 @@ returns c =
             heads = λ k h. invariant.heads k (omega (arith, h, all));
             costs = c.in_ok-costs.ensures ∙ ap (λ (n : ℕ). replicate n 1) count;
             most = refl;
+            writes = c.new.ensures.items;
           })
           c.requires,
       refl,

@@ -1,11 +1,16 @@
 use Rattle.std.proofs.Common.{◌∙◌, sym, arith}
 use Rattle.fancy_regex_regular.proofs.KeptLemmas.{ready_of}
+use Rattle.fancy_regex_regular.proofs.PaidLemmas.{paid_served, paid_anew}
 use Rattle.fancy_regex_regular.proofs.regular.Regular.begin.Goals as goal
 
 -- what is kept serves this search
 pub returns-then-serves-clause-ready : goal.returns-then-serves-clause-ready
 returns-then-serves-clause-ready c text is_kept =
-    ready_of c.args.self.now text c.args.input.now c.args.context.now c.requires c.args.memory.now (c.serves.ensures c.if-serves.true) is_kept
+    ready_of c.args.self.now text c.args.input.now c.args.context.now c.requires c.args.memory.now (c.serves.ensures.serves c.if-serves.true) is_kept
+
+pub returns-then-serves-clause-paid : goal.returns-then-serves-clause-paid
+returns-then-serves-clause-paid c text is_kept may =
+    paid_served c.args.self.now c.args.input.now c.args.memory.now.parts c.args.memory.now.kept (c.serves.ensures.serves c.if-serves.true)
 
 -- the memory begins anew
 pub returns-clause-ready : goal.returns-clause-ready
@@ -16,3 +21,11 @@ returns-clause-ready c text is_kept = record {
   remembers = λ view ways has. c.restart.ensures.remembers ways;
   of_input = (c.restart.ensures.base ∙ sym c.of.ensures.first, c.of.ensures.input);
 }
+
+pub returns-clause-paid : goal.returns-clause-paid
+returns-clause-paid c text is_kept may =
+    paid_anew c.args.self.now text c.args.input.now c.args.memory.now.parts c.restart.new.self c.args.memory.now.kept is_kept may
+    (c.serves.ensures.past c.if-serves.false) c.restart.ensures.base
+
+pub returns-clause-serves : goal.returns-clause-serves
+returns-clause-serves c = record { low = omega (arith, c.of.ensures.first); input_is = c.of.ensures.input }

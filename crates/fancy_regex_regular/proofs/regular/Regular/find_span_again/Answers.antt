@@ -1,15 +1,20 @@
-use Rattle.std.proofs.Common.{◌≡◌, ◌∙◌, ap, arith, rules}
+use Rattle.std.proofs.Common.{◌≡◌, ◌∙◌, ◌*◌, ℕ, ap, arith, rules}
 use Rattle.fancy_regex_meaning.specs.Positions.{boundaries}
 use Rattle.fancy_regex_class.specs.Looks.{look_count}
-use Rattle.fancy_regex_parts.specs.Find.{earliest}
+use Rattle.fancy_regex_parts.specs.Find.{earliest, tried}
+use Rattle.fancy_regex_parts.specs.Tables.{known_cost, table_weight}
 use Rattle.fancy_regex_parts.specs.Layers.{HasWays}
 use Rattle.fancy_regex_parts.specs.Ways.{ways_of, text_view}
 use Rattle.std.specs.Prelude.{IfSome}
 use Rattle.fancy_regex_regular.specs.Regulars.{LooksFrom}
+use Rattle.fancy_regex_regular.specs.Inputs.{MemoryServes}
+use Rattle.fancy_regex_regular.specs.Iterations.{IsPaidWithin, paid_before, paid_by}
 use Rattle.fancy_regex_regular.specs.Kept.{IsReady, IsTrueFor}
+use Rattle.fancy_regex_regular.specs.Starts.{last_start}
 use Rattle.fancy_regex_regular.proofs.KeptLemmas.{can_ask, kept_after}
 use Rattle.fancy_regex_regular.proofs.RegularSpanLemmas.{is_searched, none_past}
 use Rattle.fancy_regex_regular.proofs.RegularWeightLemmas.{looks_most}
+use Rattle.fancy_regex_regular.proofs.PaidLemmas.{looks_on, paid_of}
 use Rattle.fancy_regex_regular.proofs.regular.Regular.find_span_again.Goals as goal
 use Rattle.fancy_regex_regular.proofs.regular.Regular.find_span_again.Goals.{After-begin, After-find}
 
@@ -82,3 +87,31 @@ returns-clause-at_most c low pattern is =
 pub returns-clause-at_least : goal.returns-clause-at_least
 returns-clause-at_least c low =
     let b = rw (c.new-counted.ensures.text, c.new-counted.ensures.count, c.last_start.ensures) at c.in_ok-span.ensures.at_least in search rules
+
+-- what the search was paid for, and what is paid after it
+pub returns-clause-shared : goal.returns-clause-shared
+returns-clause-shared c low may pattern is =
+    let self = c.args.self.now in
+    let input = c.args.input.now in
+    let paid = c.begin.ensures.paid c.args.text.now c.requires.kept may in
+    let counted = rw (c.context-context.ensures.table_is, c.context-context.ensures.entry_is, c.new-counted.ensures.count, c.last_start.ensures) at c.in_ok-span.ensures.counted in
+    let base = ap (λ (b : ℕ). table_weight self.table * b) c.find.ensures.leaves.base in
+    let looks = looks_on self pattern is (tried input.first (last_start input) c.in_ok-span.span) (paid_before self input c.args.memory.now)
+    (paid_by self c.find.new.memory) (known_cost self.table c.begin.new.memory.parts.recall) (known_cost self.table c.find.new.memory.recall)
+    (table_weight self.table * c.begin.new.memory.parts.recall.base) c.args.steps.now (look_count c.find.new.text) (omega (arith, paid))
+    (omega (arith, counted)) (omega (arith, base)) in
+    search rules
+
+-- what is paid is of the text, also where memory ran out
+paid : (c : After-find) → IsReady c.context-context.result c.args.text.now c.args.input.now c.begin.new.memory
+    → MemoryServes c.begin.new.memory.kept c.args.input.now → IsPaidWithin c.args.self.now c.args.text.now c.find.new.memory
+paid c is_ready serves =
+    paid_of c.args.self.now c.args.text.now c.args.input.now c.find.new.memory c.begin.new.memory.kept serves (kept c is_ready)
+    (omega (arith, c.find.ensures.leaves.base, is_ready.low, c.if-input.false, c.requires.range))
+
+pub returns-in_err-span-clause-paid : goal.returns-in_err-span-clause-paid
+returns-in_err-span-clause-paid c low =
+    paid (goal.at.returns-in_err-span-clause-paid c).After-find (ready (goal.at.returns-in_err-span-clause-paid c).After-begin) c.begin.ensures.serves
+
+pub returns-clause-paid : goal.returns-clause-paid
+returns-clause-paid c low = paid (goal.at.returns-clause-paid c).After-find (ready (goal.at.returns-clause-paid c).After-begin) c.begin.ensures.serves

@@ -1,6 +1,7 @@
-use Rattle.std.proofs.Common.{◌∙◌, None, arith, get_or, length-set}
+use Rattle.std.proofs.Common.{◌∙◌, None, Some, arith, get_or, length-set}
 use Rattle.std.proofs.lemmas.Option.{slice_get_within}
-use Rattle.fancy_regex_table.proofs.AlphabetLemmas.{classes_more, sampled}
+use Rattle.fancy_regex_table.specs.Wides.{class_of}
+use Rattle.fancy_regex_table.proofs.AlphabetLemmas.{class_kept, classes_more, sampled}
 use Rattle.fancy_regex_table.proofs.alphabet.Alphabet.new.Goals as goal
 
 pub loop-code-preserved : goal.loop-code-preserved
@@ -17,14 +18,21 @@ loop-code-preserved c =
     }
 
 pub returns : goal.returns
-returns c = record {
-  asks = c.requires;
-  end = c.loop-code.invariant.end;
-  classes = λ code lt.
-      sampled c.args.reader.now.unicode c.args.reader.now.matchers.now c.args.reader.now.states.now c.in_ok-leaves.leaves.items c.args.asked
-      c.loop-code.samples.items code (get_or c.loop-code.ascii code 0) c.in_ok-leaves.ensures
-      (rw c.deref.ensures.value at (c.loop-code.invariant.classes code (omega (arith, lt, c.loop-code-test.false))));
-}
+returns c =
+    let reader = c.args.reader.now in
+    let leaves = c.in_ok-leaves.leaves.items in
+    let samples = c.wide_of.new.samples.items in
+    record {
+      asks = c.requires;
+      end = c.wide_of.ensures.kept 0 None c.loop-code.invariant.end;
+      classes = λ code lt.
+          sampled reader.unicode reader.matchers.now reader.states.now leaves c.args.asked samples code (get_or c.loop-code.ascii code 0) c.in_ok-leaves.ensures
+          (class_kept reader.unicode reader.matchers.now leaves c.args.asked c.loop-code.samples.items samples (Some code) (get_or c.loop-code.ascii code 0)
+          c.wide_of.ensures.kept (rw c.deref.ensures.value at (c.loop-code.invariant.classes code (omega (arith, lt, c.loop-code-test.false)))));
+      wide = λ d scalar low known.
+          sampled reader.unicode reader.matchers.now reader.states.now leaves c.args.asked samples d (class_of reader.unicode reader.matchers.now c.in_ok-wide.wide d)
+          c.in_ok-leaves.ensures (rw c.deref.ensures.value at (c.in_ok-wide.ensures.classes d scalar low known));
+    }
 
 pub overflow_cast-ascii : goal.overflow_cast-ascii
 overflow_cast-ascii c =

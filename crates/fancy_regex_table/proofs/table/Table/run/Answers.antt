@@ -1,19 +1,11 @@
-use Rattle.std.proofs.Common.{◌<◌, ◌≡◌, ◌+◌, inl, inr, ℕ, List, sym, ap, subst, arith, get_or, length, IsCharBoundary}
-use Rattle.std.proofs.lemmas.Bool.{cases_lt}
+use Rattle.std.proofs.Common.{◌<◌, ℕ, List, sym, ap, subst, arith, get_or, length, IsCharBoundary}
 use Rattle.fancy_regex_table.specs.Tables.{IsAsciiAt}
-use Rattle.fancy_regex_table.proofs.TableLemmas.{ascii_here}
+use Rattle.fancy_regex_table.proofs.TableLemmas.{ascii_here, later_at}
 use Rattle.fancy_regex_table.proofs.table.Table.run.Goals as goal
 
 pub chars-init : goal.chars-init
 chars-init c = record {
-  boundary = c.requires.boundary;
-  run = record {
-    low = omega arith;
-    order = c.requires.order;
-    high = c.requires.range.0;
-    boundaries = λ i low high. let same : c.args.first.at ≡ i = omega (arith, low, high) in subst (IsCharBoundary c.args.text.now) same c.requires.boundary;
-    onward = omega arith;
-  };
+  run = record { low = omega arith; onward = omega arith; place = c.requires.place };
   stands = λ parts rules s table search text stop here. here;
 }
 
@@ -21,33 +13,24 @@ pub chars-preserved : goal.chars-preserved
 chars-preserved c =
     let inv = c.chars.invariant in
     let at = c.chars.place.at in
-    let bytes = c.as_bytes-bytes.result.now in
-    let byte = get_or bytes at 0 in
+    let text = c.args.text.now in
+    let byte = get_or c.as_bytes-bytes.result.now at 0 in
     let onward = c.in-Some.ensures.onward in
-    let inside : at < length c.args.text.now = omega (arith, c.chars-test.true, c.requires.range.1) in
-    let ascii : byte < 128 → IsAsciiAt c.args.text.now at byte =
-    λ small. ascii_here c.args.text.now at byte 0 c.utf8.text inv.boundary inside (ap (λ (t : List ℕ). get_or t at 0) c.as_bytes-bytes.ensures.value) small in
+    let inside : at < length text = omega (arith, c.chars-test.true, c.requires.stop) in
+    let ascii : byte < 128 → IsAsciiAt text at byte =
+    λ small. ascii_here text at byte 0 c.utf8.text inv.run.place.boundary inside (ap (λ (t : List ℕ). get_or t at 0) c.as_bytes-bytes.ensures.value) small in
+    let next_at = onward.at in
+    let later = later_at text c.args.stop c.chars.place c.in-Some.next inv.run.place (omega (arith, next_at)) (omega (arith, next_at, c.chars-test.true))
+    (subst (IsCharBoundary text) (sym next_at) (ascii onward.ascii).boundary_next) onward.start in
     record {
-      boundary = subst (IsCharBoundary c.args.text.now) (sym onward.at) (ascii onward.ascii).boundary_next;
-      run = record {
-        low = omega (arith, inv.run.low, onward.low);
-        order = omega (arith, onward.at, onward.high);
-        high = omega (arith, onward.at, c.chars-test.true);
-        boundaries = λ i low high.
-            elim (cases_lt at i) [
-              | inr before ↦ inv.run.boundaries i low before
-              | inl after ↦
-                  let same : at + 1 ≡ i = omega (arith, high, after, onward.at) in subst (IsCharBoundary c.args.text.now) same (ascii onward.ascii).boundary_next
-            ];
-        onward = omega (arith, inv.run.onward, onward.at);
-      };
-      stands = λ parts rules s table search text stop here.
-          c.in-Some.ensures.stands parts rules s table search (λ small. subst (λ (t : List ℕ). IsAsciiAt t at byte) (sym text) (ascii small))
-          (omega (arith, c.chars-test.true, stop)) (inv.stands parts rules s table search text stop here);
+      run = record { low = omega (arith, inv.run.low, later.low); onward = omega (arith, inv.run.onward, later.onward); place = later.is_in };
+      stands = λ parts rules s table search text_is stop here.
+          c.in-Some.ensures.stands parts rules s table search (λ small. subst (λ (t : List ℕ). IsAsciiAt t at byte) (sym text_is) (ascii small))
+          (omega (arith, c.chars-test.true, stop)) (inv.stands parts rules s table search text_is stop here);
     }
 
 pub step-requires-clause-order : goal.step-requires-clause-order
-step-requires-clause-order c = c.chars.invariant.run.order
+step-requires-clause-order c = c.chars.invariant.run.place.order
 
 pub returns-in-None-clause-run : goal.returns-in-None-clause-run
 returns-in-None-clause-run c = c.chars.invariant.run

@@ -1,4 +1,4 @@
-use Rattle.std.proofs.Common.{◌≡◌, ◌-◌, IsCharBoundary}
+use Rattle.std.proofs.Common.{◌≡◌, ◌-◌}
 use Rattle.fancy_regex_states.specs.declared.rules.Rules.{Rules}
 use Rattle.fancy_regex_table.specs.Cells.{Parts, Search}
 use Rattle.fancy_regex_table.specs.Tables.{IsTable, IsSearchOf, IsRunTo, Stands}
@@ -6,7 +6,6 @@ use Rattle.fancy_regex_table.proofs.table.Table.run.Given as goal
 
 abbrev pub invariant-chars : goal.invariant-chars
 invariant-chars l = record {
-  boundary : IsCharBoundary l.text l.place.at;
   run : IsRunTo l.text l.fn.first l.stop l.place;
   stands : (parts : Parts) (rules : Rules) (s : Search) (table : IsTable parts l.self) → IsSearchOf parts rules s → s.text ≡ l.text → s.stop ≡ l.stop
       → Stands parts.matchers l.self.asked l.self.unicode table.rows s l.fn.first → Stands parts.matchers l.self.asked l.self.unicode table.rows s l.place;
