@@ -24,13 +24,13 @@ use Rattle.fancy_regex_bytes.specs.StartBytes.{StartBytesHold}
 use Rattle.fancy_regex_bytes.specs.RequiredBytes.{RequiredBytesHold}
 use Rattle.fancy_regex_input.specs.SearchInputs.{FitsText, input_of}
 use Rattle.fancy_regex_input.specs.declared.config.SearchConfig.{SearchConfig}
-use Rattle.fancy_regex_meta.specs.Patterns.{tree_or_empty, tree_in, pattern_in, options_in, setting_in}
-use Rattle.fancy_regex_meta.specs.PatternMatches.{match_from}
-use Rattle.fancy_regex_meta.specs.Refusals.{Accepts}
-use Rattle.fancy_regex_meta.specs.SearchLimits.{setting_from, search_at}
-use Rattle.fancy_regex_meta.specs.declared.options.RegexOptions.{RegexOptions}
-use Rattle.fancy_regex_meta.proofs.MatchOffsetLemmas.{first_fits, first_lies}
-use Rattle.fancy_regex_meta.proofs.SearchLemmas.{none-past}
+use Rattle.fancy_regex_search.specs.Patterns.{tree_or_empty, tree_in, pattern_in, options_in, setting_in}
+use Rattle.fancy_regex_search.specs.PatternMatches.{match_from}
+use Rattle.fancy_regex_search.specs.Refusals.{Accepts}
+use Rattle.fancy_regex_search.specs.SearchLimits.{setting_from, search_at}
+use Rattle.fancy_regex_search.specs.RegexOptions.{RegexOptions}
+use Rattle.fancy_regex_search.proofs.MatchOffsetLemmas.{first_fits, first_lies}
+use Rattle.fancy_regex_search.proofs.SearchLemmas.{none-past}
 use Rattle.fancy_regex.specs.ByteSetLaws.{StartsIn, HoldsAll, MatchesHave, MatchesStartIn, FindsOnlyIn, MatchesRequire, FindsOnlyWith}
 use Rattle.fancy_regex.proofs.InOrderLemmas.{in_order}
 

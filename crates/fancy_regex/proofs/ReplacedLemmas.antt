@@ -4,11 +4,11 @@ use Rattle.std.specs.Prelude.{IfOk, IfErr, string_bytes, slice_range}
 use Rattle.fancy_regex_meaning.specs.Searches.{Match, pieces_from, replaced_from}
 use Rattle.fancy_regex_meaning.specs.ItemLaws.{alternately}
 use Rattle.fancy_regex_input.specs.SearchInputs.{whole}
-use Rattle.fancy_regex_meta.specs.declared.meta_regex.MetaRegex.{MetaRegex}
+use Rattle.fancy_regex_search.specs.MetaRegex.{MetaRegex}
 use Rattle.fancy_regex_search.specs.IterationErrors.{IsErrorOfIteration}
 use Rattle.fancy_regex_search.specs.RemainingMatches.{all_matches}
-use Rattle.fancy_regex_meta.specs.declared.error.Error.{Error}
-use Rattle.fancy_regex_meta.specs.declared.error.Error.TheVariants as errors
+use Rattle.fancy_regex_search.specs.Error.{Error}
+use Rattle.fancy_regex_search.specs.Error.TheVariants as errors
 use Rattle.fancy_regex_search.specs.GroupTexts.{AnswersTemplate, text_without_sign}
 use Rattle.fancy_regex_search.specs.Replacements.{CapturesView, AnswersInTurn, FailsInTurn, IsReplacedBy, by_calls, by_text, IsReplaceError, of_search, of_search_by_text, of_call, of_memory, captures_view}
 use Rattle.fancy_regex_search.specs.TemplateLaws.{template_text}

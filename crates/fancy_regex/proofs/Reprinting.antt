@@ -18,8 +18,8 @@ use Rattle.fancy_regex_print_laws.specs.ReprintLaws.{TreeParses, plain_options}
 use Rattle.fancy_regex_input.specs.SearchInputs.{input_of}
 use Rattle.fancy_regex_input.specs.declared.config.SearchConfig.{SearchConfig}
 use Rattle.fancy_regex_class.specs.Classes.{setting_of}
-use Rattle.fancy_regex_meta.specs.Patterns.{read_as, tree_or_empty, tree_in, pattern_in, options_in, setting_in}
-use Rattle.fancy_regex_meta.specs.declared.options.RegexOptions.{RegexOptions}
+use Rattle.fancy_regex_search.specs.Patterns.{read_as, tree_or_empty, tree_in, pattern_in, options_in, setting_in}
+use Rattle.fancy_regex_search.specs.RegexOptions.{RegexOptions}
 use Rattle.fancy_regex_reprint.specs.Reprinted.{text_in, reprinted}
 use Rattle.fancy_regex.specs.Reprinting.{KeepsMatches}
 

@@ -3,13 +3,13 @@ use Rattle.std.proofs.Common.{◌≡◌, ℕ, Bool, false, List, max, subst, ari
 use Rattle.std.specs.Prelude.{string_bytes}
 use Rattle.fancy_regex_input.specs.SearchInputs.{whole}
 use Rattle.fancy_regex_input.specs.declared.config.SearchConfig.{SearchConfig}
-use Rattle.fancy_regex_meta.specs.SearchLimits.{IsSearchError, IsMetaSearchError}
-use Rattle.fancy_regex_meta.specs.EasyPatterns.{pattern_uses_easy}
-use Rattle.fancy_regex_meta.specs.declared.error.Error.{Error}
-use Rattle.fancy_regex_meta.specs.declared.error.Error.TheVariants as errors
-use Rattle.fancy_regex_meta.specs.declared.options.RegexOptions.{RegexOptions}
-use Rattle.fancy_regex_meta.specs.declared.meta_regex.MetaRegex.{MetaRegex}
-use Rattle.fancy_regex_meta.specs.MetaMatches.{meta_match_from}
+use Rattle.fancy_regex_search.specs.SearchLimits.{IsSearchError, IsMetaSearchError}
+use Rattle.fancy_regex_search.specs.EasyPatterns.{pattern_uses_easy}
+use Rattle.fancy_regex_search.specs.Error.{Error}
+use Rattle.fancy_regex_search.specs.Error.TheVariants as errors
+use Rattle.fancy_regex_search.specs.RegexOptions.{RegexOptions}
+use Rattle.fancy_regex_search.specs.MetaRegex.{MetaRegex}
+use Rattle.fancy_regex_search.specs.MetaMatches.{meta_match_from}
 use Rattle.fancy_regex_search.specs.declared.match_iter.IterState.{IterState}
 use Rattle.fancy_regex_search.specs.IterationErrors.{IsItemError, IsIterationError}
 use Rattle.fancy_regex_search.specs.IterationSearches.{KeepsSearches, MakesSearchFrom, next}

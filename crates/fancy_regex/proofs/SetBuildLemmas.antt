@@ -4,10 +4,10 @@ use Rattle.std.specs.Prelude.{slice_get, option_map}
 use Rattle.std.proofs.lemmas.List.{take_more, take-map, map-append}
 use Rattle.std.proofs.lemmas.Option.{slice_get-map, slice_get-get_or}
 use Rattle.fancy_regex_meaning.specs.WayLaws.{Each}
-use Rattle.fancy_regex_meta.specs.Refusals.{Accepts, Refuses}
-use Rattle.fancy_regex_meta.specs.declared.options.RegexOptions.{RegexOptions}
-use Rattle.fancy_regex_meta.specs.declared.error.Error.{Error}
-use Rattle.fancy_regex_meta.specs.declared.error.Error.TheVariants as told
+use Rattle.fancy_regex_search.specs.Refusals.{Accepts, Refuses}
+use Rattle.fancy_regex_search.specs.RegexOptions.{RegexOptions}
+use Rattle.fancy_regex_search.specs.Error.{Error}
+use Rattle.fancy_regex_search.specs.Error.TheVariants as told
 use Rattle.fancy_regex_search.specs.declared.regex.Regex.{Regex}
 use Rattle.fancy_regex.specs.SetMembers.{IsBuiltOf, AreBuiltOf, RefusesPatterns}
 

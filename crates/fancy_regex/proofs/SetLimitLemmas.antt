@@ -4,7 +4,7 @@ use Rattle.std.specs.Prelude.{MatchOption}
 use Rattle.std.proofs.lemmas.Bool.{cases_lt}
 use Rattle.fancy_regex_meaning.specs.Searches.{Match, SetAnswer}
 use Rattle.fancy_regex_input.specs.declared.config.SearchConfig.{SearchConfig}
-use Rattle.fancy_regex_meta.specs.declared.error.Error.{Error}
+use Rattle.fancy_regex_search.specs.Error.{Error}
 use Rattle.fancy_regex_search.specs.declared.regex.Regex.{Regex}
 use Rattle.fancy_regex.specs.SetAnswers.{answer_of_set, found_from, last_tried, AreInLimits, AreInLimitsBefore}
 use Rattle.fancy_regex.specs.SetLimits.{SetStays}

@@ -6,9 +6,9 @@ use Rattle.std.proofs.lemmas.Option.{get_or_from_slice_get, slice_get_within, sl
 use Rattle.fancy_regex_meaning.specs.Searches.{Match, member_match, found_at}
 use Rattle.fancy_regex_input.specs.SearchInputs.{input_of, effective_start}
 use Rattle.fancy_regex_input.specs.declared.config.SearchConfig.{SearchConfig}
-use Rattle.fancy_regex_meta.specs.MetaMatches.{meta_pattern}
-use Rattle.fancy_regex_meta.specs.MemberSearches.{meta_match_at, IsMemberError, MemberStaysInLimits}
-use Rattle.fancy_regex_meta.specs.declared.error.Error.{Error}
+use Rattle.fancy_regex_search.specs.MetaMatches.{meta_pattern}
+use Rattle.fancy_regex_search.specs.MemberSearches.{meta_match_at, IsMemberError, MemberStaysInLimits}
+use Rattle.fancy_regex_search.specs.Error.{Error}
 use Rattle.fancy_regex_search.specs.AnchoredSearches.{continues_at}
 use Rattle.fancy_regex_search.specs.CaptureSpans.{AreGroupsOf, span_in}
 use Rattle.fancy_regex_search.specs.declared.regex.Regex.{Regex}

@@ -6,7 +6,7 @@ use Rattle.fancy_regex_meaning.specs.Searches.{Match, SetAnswer}
 use Rattle.fancy_regex_meaning.specs.SearchLaws.{OneMemberFinds}
 use Rattle.fancy_regex_input.specs.SearchInputs.{input_of}
 use Rattle.fancy_regex_input.specs.declared.config.SearchConfig.{SearchConfig}
-use Rattle.fancy_regex_meta.specs.MetaMatches.{meta_match}
+use Rattle.fancy_regex_search.specs.MetaMatches.{meta_match}
 use Rattle.fancy_regex_search.specs.declared.regex.Regex.{Regex}
 use Rattle.fancy_regex.specs.SetAnswers.{member_of, answer_of_set, found_from, IsAnswerOfSet, IsAnswerOfOne}
 

@@ -11,7 +11,7 @@ use Rattle.fancy_regex_meaning.proofs.NextBoundaryLemmas.{from_here, next_place,
 use Rattle.std.proofs.lemmas.Str.{IsUtf8-drop}
 use Rattle.fancy_regex_input.specs.SearchInputs.{input_of}
 use Rattle.fancy_regex_input.specs.declared.config.SearchConfig.{SearchConfig}
-use Rattle.fancy_regex_meta.specs.SearchLimits.{effective_start}
+use Rattle.fancy_regex_search.specs.SearchLimits.{effective_start}
 use Rattle.fancy_regex_search.specs.declared.regex.Regex.{Regex}
 use Rattle.fancy_regex.specs.SetAnswers.{members_of, answer_of_set, found_from, last_tried}
 

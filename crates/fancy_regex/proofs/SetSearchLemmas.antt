@@ -9,8 +9,8 @@ use Rattle.fancy_regex_meaning.specs.Searches.{Match, SetAnswer, first_some}
 use Rattle.fancy_regex_meaning.proofs.NextBoundaryLemmas.{test_of_IsCharBoundary, inside_char}
 use Rattle.fancy_regex_input.specs.SearchInputs.{FitsText}
 use Rattle.fancy_regex_input.specs.declared.config.SearchConfig.{SearchConfig}
-use Rattle.fancy_regex_meta.specs.SearchLimits.{effective_start}
-use Rattle.fancy_regex_meta.proofs.MatchOffsetLemmas.{first_fits}
+use Rattle.fancy_regex_search.specs.SearchLimits.{effective_start}
+use Rattle.fancy_regex_search.proofs.MatchOffsetLemmas.{first_fits}
 use Rattle.fancy_regex_search.specs.declared.regex.Regex.{Regex}
 use Rattle.fancy_regex.specs.SetAnswers.{answer_of_set, found_from, last_tried, IsTriedAt}
 use Rattle.fancy_regex.proofs.SetPositionLemmas.{answer_at, answer_is, answer_here, answer_later, no_place}

@@ -8,9 +8,9 @@ use Rattle.regex_hir.specs.Text.{is_some_and}
 use Rattle.fancy_regex_meaning.specs.Searches.{Match, match_at}
 use Rattle.fancy_regex_bytes.specs.ByteSets.{has}
 use Rattle.fancy_regex_bytes.specs.declared.byte_set.ByteSet.{ByteSet}
-use Rattle.fancy_regex_meta.specs.Patterns.{pattern_in, options_in, setting_in}
-use Rattle.fancy_regex_meta.specs.SeekTables.{marked}
-use Rattle.fancy_regex_meta.specs.declared.options.RegexOptions.{RegexOptions}
+use Rattle.fancy_regex_search.specs.Patterns.{pattern_in, options_in, setting_in}
+use Rattle.fancy_regex_search.specs.SeekTables.{marked}
+use Rattle.fancy_regex_search.specs.RegexOptions.{RegexOptions}
 use Rattle.fancy_regex_search.specs.declared.regex.Regex.{Regex}
 use Rattle.fancy_regex.specs.MemberStarts.{may_start_with}
 use Rattle.fancy_regex.specs.StartTables.{Serves}

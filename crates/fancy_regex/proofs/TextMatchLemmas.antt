@@ -2,7 +2,7 @@
 use Rattle.std.proofs.Common.{◌≡◌, ℕ, List, refl}
 use Rattle.std.specs.Prelude.{string_bytes}
 use Rattle.fancy_regex_input.specs.SearchInputs.{whole}
-use Rattle.fancy_regex_meta.specs.declared.meta_regex.MetaRegex.{MetaRegex}
+use Rattle.fancy_regex_search.specs.MetaRegex.{MetaRegex}
 use Rattle.fancy_regex_search.specs.RemainingMatches.{all_matches}
 use Rattle.fancy_regex.specs.TextMatches.{matches_in}
 

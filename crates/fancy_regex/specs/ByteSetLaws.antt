@@ -11,12 +11,12 @@ use Rattle.fancy_regex_bytes.specs.ByteSets.{Bytes}
 use Rattle.fancy_regex_bytes.specs.StartErrors.{IsStartError}
 use Rattle.fancy_regex_input.specs.SearchInputs.{FitsText, input_of}
 use Rattle.fancy_regex_input.specs.declared.config.SearchConfig.{SearchConfig}
-use Rattle.fancy_regex_meta.specs.Patterns.{read_as, pattern_in, options_in, setting_in}
-use Rattle.fancy_regex_meta.specs.Reading.{IsReadingError}
-use Rattle.fancy_regex_meta.specs.Refusals.{Accepts}
-use Rattle.fancy_regex_meta.specs.declared.options.RegexOptions.{RegexOptions}
-use Rattle.fancy_regex_meta.specs.declared.error.Error.{Error}
-use Rattle.fancy_regex_meta.specs.declared.error.Error.TheVariants as told
+use Rattle.fancy_regex_search.specs.Patterns.{read_as, pattern_in, options_in, setting_in}
+use Rattle.fancy_regex_search.specs.Reading.{IsReadingError}
+use Rattle.fancy_regex_search.specs.Refusals.{Accepts}
+use Rattle.fancy_regex_search.specs.RegexOptions.{RegexOptions}
+use Rattle.fancy_regex_search.specs.Error.{Error}
+use Rattle.fancy_regex_search.specs.Error.TheVariants as told
 
 -- the match starts at a byte of the set
 abbrev pub StartsIn : Bytes → List ℕ → Match → Type 0

@@ -6,9 +6,9 @@ use Rattle.fancy_regex_template.specs.Expansion.{Texts, expansion}
 use Rattle.fancy_regex_template.specs.declared.syntax.TemplateSyntax.TheVariants.{Dollar}
 use Rattle.fancy_regex_class.specs.RunInputs.{match_slots}
 use Rattle.fancy_regex_search.specs.GroupTexts.{text_at}
-use Rattle.fancy_regex_meta.specs.Patterns.{pattern_in}
-use Rattle.fancy_regex_meta.specs.PatternMatches.{names_in}
-use Rattle.fancy_regex_meta.specs.declared.options.RegexOptions.{RegexOptions}
+use Rattle.fancy_regex_search.specs.Patterns.{pattern_in}
+use Rattle.fancy_regex_search.specs.PatternMatches.{names_in}
+use Rattle.fancy_regex_search.specs.RegexOptions.{RegexOptions}
 use Rattle.fancy_regex.specs.TextMatches.{matches_in}
 
 -- the texts of the groups of a match, as a template reads them

@@ -5,8 +5,8 @@ use Rattle.fancy_regex_meaning.specs.Searches.{find_input, all_items, match_at}
 use Rattle.fancy_regex_input.specs.SearchInputs.{input_of}
 use Rattle.fancy_regex_input.specs.declared.config.SearchConfig.{SearchConfig}
 use Rattle.fancy_regex_print_laws.specs.ReprintLaws.{plain_options}
-use Rattle.fancy_regex_meta.specs.Patterns.{reading_of, read_as, pattern_in, options_in, setting_in}
-use Rattle.fancy_regex_meta.specs.declared.options.RegexOptions.{RegexOptions}
+use Rattle.fancy_regex_search.specs.Patterns.{reading_of, read_as, pattern_in, options_in, setting_in}
+use Rattle.fancy_regex_search.specs.RegexOptions.{RegexOptions}
 
 -- under these options the text is a pattern
 abbrev pub IsPattern : RegexOptions → List ℕ → Type 0

@@ -4,11 +4,11 @@ use Rattle.std.specs.declared.result.Result.{Result}
 use Rattle.fancy_regex_meaning.specs.Searches.{Match, Member, SetAnswer, found_at, set_answer}
 use Rattle.fancy_regex_input.specs.SearchInputs.{input_of}
 use Rattle.fancy_regex_input.specs.declared.config.SearchConfig.{SearchConfig}
-use Rattle.fancy_regex_meta.specs.Patterns.{options_in, setting_in}
-use Rattle.fancy_regex_meta.specs.MetaMatches.{meta_pattern, meta_match}
-use Rattle.fancy_regex_meta.specs.MemberSearches.{meta_match_at, IsMemberError, MemberStaysInLimits}
-use Rattle.fancy_regex_meta.specs.SearchLimits.{effective_start}
-use Rattle.fancy_regex_meta.specs.declared.error.Error.{Error}
+use Rattle.fancy_regex_search.specs.Patterns.{options_in, setting_in}
+use Rattle.fancy_regex_search.specs.MetaMatches.{meta_pattern, meta_match}
+use Rattle.fancy_regex_search.specs.MemberSearches.{meta_match_at, IsMemberError, MemberStaysInLimits}
+use Rattle.fancy_regex_search.specs.SearchLimits.{effective_start}
+use Rattle.fancy_regex_search.specs.Error.{Error}
 use Rattle.fancy_regex_search.specs.CaptureSpans.{AreGroupsOf, IsResultFor, span_in}
 use Rattle.fancy_regex_search.specs.declared.regex.Regex.{Regex}
 use Rattle.fancy_regex.specs.SetStarts.{FindsNoneAt}

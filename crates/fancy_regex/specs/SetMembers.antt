@@ -1,11 +1,11 @@
 -- The members of a set that is built of patterns.
 use Rattle.std.specs.Prelude.{◌≡◌, ⊤, ℕ, List, [], ◌∷◌, take, Some, slice_get, string_bytes}
 use Rattle.fancy_regex_meaning.specs.WayLaws.{Each}
-use Rattle.fancy_regex_meta.specs.Caps.{MetaKeepsCap}
-use Rattle.fancy_regex_meta.specs.Refusals.{Accepts, Refuses}
-use Rattle.fancy_regex_meta.specs.declared.options.RegexOptions.{RegexOptions}
-use Rattle.fancy_regex_meta.specs.declared.error.Error.{Error}
-use Rattle.fancy_regex_meta.specs.declared.error.Error.TheVariants as told
+use Rattle.fancy_regex_search.specs.Caps.{MetaKeepsCap}
+use Rattle.fancy_regex_search.specs.Refusals.{Accepts, Refuses}
+use Rattle.fancy_regex_search.specs.RegexOptions.{RegexOptions}
+use Rattle.fancy_regex_search.specs.Error.{Error}
+use Rattle.fancy_regex_search.specs.Error.TheVariants as told
 use Rattle.fancy_regex_search.specs.declared.regex.Regex.{Regex}
 
 -- The regex is built of the pattern with these options.

@@ -2,9 +2,9 @@
 use Rattle.std.specs.Prelude.{◌≡◌, ⊤, ℕ, ◌≤◌, ◌<◌, Bool, List, [], ◌∷◌, Option, Some, IfSome, slice_get, IsUtf8, IsCharBoundary}
 use Rattle.fancy_regex_meaning.specs.Searches.{Match}
 use Rattle.fancy_regex_input.specs.declared.config.SearchConfig.{SearchConfig}
-use Rattle.fancy_regex_meta.specs.MemberSearches.{meta_match_at}
-use Rattle.fancy_regex_meta.specs.SeekTables.{marked}
-use Rattle.fancy_regex_meta.specs.declared.options.RegexOptions.{RegexOptions}
+use Rattle.fancy_regex_search.specs.MemberSearches.{meta_match_at}
+use Rattle.fancy_regex_search.specs.SeekTables.{marked}
+use Rattle.fancy_regex_search.specs.RegexOptions.{RegexOptions}
 use Rattle.fancy_regex_search.specs.declared.regex.Regex.{Regex}
 use Rattle.fancy_regex.specs.StartTables.{next_of}
 use Rattle.fancy_regex.specs.declared.start_table.StartTable.{StartTable}

@@ -3,12 +3,12 @@ use Rattle.std.specs.Prelude.{ℕ, Bool, false, List, length, string_bytes}
 use Rattle.fancy_regex_meaning.specs.Choices.{choices}
 use Rattle.fancy_regex_meaning.specs.Searches.{Match, all_items}
 use Rattle.fancy_regex_input.specs.SearchInputs.{whole, input_of}
-use Rattle.fancy_regex_meta.specs.SearchLimits.{IsSearchError, setting_from, search_at}
-use Rattle.fancy_regex_meta.specs.Patterns.{pattern_in, options_in, setting_in}
-use Rattle.fancy_regex_meta.specs.PatternMatches.{match_from}
-use Rattle.fancy_regex_meta.specs.EasyPatterns.{pattern_uses_easy}
-use Rattle.fancy_regex_meta.specs.declared.error.Error.{Error}
-use Rattle.fancy_regex_meta.specs.declared.options.RegexOptions.{RegexOptions}
+use Rattle.fancy_regex_search.specs.SearchLimits.{IsSearchError, setting_from, search_at}
+use Rattle.fancy_regex_search.specs.Patterns.{pattern_in, options_in, setting_in}
+use Rattle.fancy_regex_search.specs.PatternMatches.{match_from}
+use Rattle.fancy_regex_search.specs.EasyPatterns.{pattern_uses_easy}
+use Rattle.fancy_regex_search.specs.Error.{Error}
+use Rattle.fancy_regex_search.specs.RegexOptions.{RegexOptions}
 use Rattle.fancy_regex_search.specs.IterationSearches.{MakesSearch}
 use Rattle.fancy_regex_search.specs.declared.regex.Regex.{Regex}
 

@@ -1,15 +1,14 @@
 //! `RegexBuilder`: a pattern with its options. `build` compiles them to a `Regex`; each setter changes one option only.
 
 ghost use Rattle.std.specs.Prelude.{◌≡◌, Some, string_bytes, IfOk, IfErr};
-ghost use Rattle.fancy_regex_meta.specs.Caps.{MetaKeepsCap};
-ghost use Rattle.fancy_regex_meta.specs.Defaults.{default_options};
-ghost use Rattle.fancy_regex_meta.specs.Refusals.{Accepts, Refuses};
-ghost use Rattle.fancy_regex_meta.specs.declared.error.Error.TheVariants.{Memory};
+ghost use Rattle.fancy_regex_search.specs.Caps.{MetaKeepsCap};
+ghost use Rattle.fancy_regex_search.specs.Defaults.{default_options};
+ghost use Rattle.fancy_regex_search.specs.Refusals.{Accepts, Refuses};
+ghost use Rattle.fancy_regex_search.specs.Error.TheVariants.{Memory};
 
 use crate::options_builder::RegexOptionsBuilder;
 use fancy_regex_info::BytesMode;
-use fancy_regex_meta::Result;
-use fancy_regex_search::Regex;
+use fancy_regex_search::{Regex, Result};
 use std::alloc::Global;
 
 /// A pattern and the options to compile it with. Each setter changes only what it names and returns the builder.

@@ -4,15 +4,15 @@ ghost use Rattle.std.specs.Prelude.{◌≡◌, IfOk, IfErr, IfSome, option_map};
 ghost use Rattle.fancy_regex_bytes.specs.ByteSets.{has};
 ghost use Rattle.fancy_regex_bytes.specs.StartBytes as starts;
 ghost use Rattle.fancy_regex_bytes.specs.RequiredBytes as required;
-ghost use Rattle.fancy_regex_meta.specs.Patterns.{tree_in};
-ghost use Rattle.fancy_regex_meta.specs.Reading.{IsReadingError};
+ghost use Rattle.fancy_regex_search.specs.Patterns.{tree_in};
+ghost use Rattle.fancy_regex_search.specs.Reading.{IsReadingError};
 ghost use Rattle.fancy_regex.specs.ByteSetLaws.{MatchesStartIn, FindsOnlyIn, MatchesRequire, FindsOnlyWith, IsStartBytesError};
 
 use crate::options_builder::RegexOptionsBuilder;
 use fancy_regex_bytes::{ByteSet, required_bytes, start_bytes};
 use fancy_regex_class::ClassError;
 use fancy_regex_info::CompileError;
-use fancy_regex_meta::{Error, Result};
+use fancy_regex_search::{Error, Result};
 use std::alloc::Global;
 
 impl RegexOptionsBuilder {

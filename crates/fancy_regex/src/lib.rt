@@ -20,12 +20,11 @@ pub use fancy_regex_bytes::{ByteSet, ByteSetIter};
 pub use fancy_regex_class::Steps;
 pub use fancy_regex_info::{BytesMode, CompileError};
 pub use fancy_regex_input::{Input, Match, RegexInput, SearchConfig};
-pub use fancy_regex_machine::RuntimeError;
 pub use fancy_regex_meaning::laws_of_items;
-pub use fancy_regex_meta::{Error, Result};
 pub use fancy_regex_search::{
-    CaptureMatches, CaptureNames, Captures, Expander, FnReplacer, Matches, NoExpand, Regex,
-    Replacer, ReplacerRef, SearchMemory, Split, SplitN, SubCaptureMatches, escape,
+    CaptureMatches, CaptureNames, Captures, Error, Expander, FnReplacer, Matches, NoExpand, Regex,
+    Replacer, ReplacerRef, Result, RuntimeError, SearchMemory, Split, SplitN, SubCaptureMatches,
+    escape,
 };
 pub use fancy_regex_tree::{
     Absent, Assertion, AstNode, BacktrackingControlVerb, CaptureGroupTarget, Error as ExprError,

@@ -2,13 +2,12 @@
 //! option only.
 
 ghost use Rattle.std.specs.Prelude.{◌≡◌, Some, string_bytes, IfOk, IfErr};
-ghost use Rattle.fancy_regex_meta.specs.Caps.{MetaKeepsCap};
-ghost use Rattle.fancy_regex_meta.specs.Defaults.{default_options};
-ghost use Rattle.fancy_regex_meta.specs.Refusals.{Accepts, Refuses};
+ghost use Rattle.fancy_regex_search.specs.Caps.{MetaKeepsCap};
+ghost use Rattle.fancy_regex_search.specs.Defaults.{default_options};
+ghost use Rattle.fancy_regex_search.specs.Refusals.{Accepts, Refuses};
 
 use fancy_regex_info::BytesMode;
-use fancy_regex_meta::{RegexOptions, Result};
-use fancy_regex_search::Regex;
+use fancy_regex_search::{Regex, RegexOptions, Result};
 use std::alloc::Global;
 
 /// The options to compile patterns with. Each setter changes only the option that it names and returns the builder.

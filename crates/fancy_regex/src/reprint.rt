@@ -2,15 +2,15 @@
 
 ghost use Rattle.std.specs.Prelude.{◌≡◌, IfOk, IfErr, IfSome, option_map, string_bytes};
 ghost use Rattle.fancy_regex_reprint.specs.Reprinted.{text_in, reprinted};
-ghost use Rattle.fancy_regex_meta.specs.Patterns.{tree_in};
-ghost use Rattle.fancy_regex_meta.specs.Reading.{IsReadingError};
+ghost use Rattle.fancy_regex_search.specs.Patterns.{tree_in};
+ghost use Rattle.fancy_regex_search.specs.Reading.{IsReadingError};
 ghost use Rattle.fancy_regex.specs.Reprinting.{IsPattern, KeepsMatches};
 
 use crate::options_builder::RegexOptionsBuilder;
 use fancy_regex_meaning::laws_of_groups;
-use fancy_regex_meta::Result;
 use fancy_regex_print_laws::{normal_form_laws, printed_tree_parses};
 use fancy_regex_reprint::reprint;
+use fancy_regex_search::Result;
 use std::alloc::Global;
 
 impl RegexOptionsBuilder {

@@ -2,15 +2,14 @@
 
 ghost use Rattle.std.specs.Prelude.{◌≡◌, ◌==◌, ◌≤◌, ◌<◌, map, length, IfOk, IfErr, MatchOption, vec_len};
 ghost use Rattle.std.specs.Option.{ForSome};
-ghost use Rattle.fancy_regex_meta.specs.Defaults.{default_options};
+ghost use Rattle.fancy_regex_search.specs.Defaults.{default_options};
 ghost use Rattle.fancy_regex.specs.SetMembers.{AreBuiltOf, RefusesPatterns};
 ghost use Rattle.fancy_regex.specs.SetStarts.{FindNoneBetween, PassesOver};
 
 use crate::options_builder::RegexOptionsBuilder;
 use crate::set_starts::start_table;
 use crate::start_table::StartTable;
-use fancy_regex_meta::Result;
-use fancy_regex_search::Regex;
+use fancy_regex_search::{Regex, Result};
 use std::alloc::Global;
 
 /// Several regexes, its members, that are searched for together. They are numbered from 0. No search changes the set, so it can

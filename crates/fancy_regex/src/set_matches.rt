@@ -4,12 +4,11 @@ ghost use Rattle.std.specs.Prelude.{◌≡◌, ◌≤◌, ◌+◌, ◌-◌, ◌<
 ghost use Rattle.std.specs.Iterator.{at_most};
 ghost use Rattle.fancy_regex_input.specs.SearchInputs.{FitsText};
 ghost use Rattle.fancy_regex.specs.SetAnswers.{YieldsMember, PassesInLimits, IsMatchOfMember};
-ghost use Rattle.fancy_regex_meta.specs.MatchOffsets.{AreBoundaries};
+ghost use Rattle.fancy_regex_search.specs.MatchOffsets.{AreBoundaries};
 
 use crate::set::RegexSet;
 use fancy_regex_input::{Input, SearchConfig};
-use fancy_regex_meta::{MetaMemory, Result};
-use fancy_regex_search::{AnchoredMatch, Captures, match_at};
+use fancy_regex_search::{AnchoredMatch, Captures, Result, SearchMemory, match_at};
 use std::alloc::Global;
 
 /// The match of one member of a set.
@@ -108,7 +107,7 @@ pub struct RegexSetMatchesAt<'s, S: Input> {
     /// The number of the first member that was not asked.
     pub(crate) next: usize,
     /// What the searches allocate, used again by each.
-    pub(crate) memory: MetaMemory,
+    pub(crate) memory: SearchMemory,
 }
 
 impl<'s, S: Input> RegexSetMatchesAt<'s, S> {
@@ -186,7 +185,7 @@ impl<'s, S: Input> MembersAt<'s, S> {
     pub fn advance(
         &self,
         next: &mut usize,
-        memory: &mut MetaMemory,
+        memory: &mut SearchMemory,
     ) -> Option<Result<RegexSetMatch<'s, S>>>
         ensures item { YieldsMember self.now.set.now.regexes.items (S.text self.now.haystack) self.now.config
             (λ x found. IsMatchOfMember self.now.set.now.regexes.items found x.pattern x.matched.captures.regex.now
@@ -218,7 +217,7 @@ impl<'s, S: Input> MembersAt<'s, S> {
 
     /// The match of the member with this number; `None` if it has no match that starts at the position. `RuntimeError` if its
     /// search exceeds a limit; `Memory` if memory runs out.
-    fn ask(&self, number: usize, memory: &mut MetaMemory) -> Result<Option<RegexSetMatch<'s, S>>>
+    fn ask(&self, number: usize, memory: &mut SearchMemory) -> Result<Option<RegexSetMatch<'s, S>>>
         requires { number < length self.now.set.now.regexes.items }
         ensures answer { IfOk result (λ found. IsAnswerOfMember self.now.set.now.regexes.items (S.text self.now.haystack) self.now.config
             (λ x found. IsMatchOfMember self.now.set.now.regexes.items found x.pattern x.matched.captures.regex.now

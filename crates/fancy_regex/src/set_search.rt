@@ -1,7 +1,7 @@
 //! The search of a set.
 
 ghost use Rattle.std.specs.Prelude.{◌≡◌, ◌∷◌, [], IfOk, IfErr, IfSome, MatchOption, None, Some, option_map};
-ghost use Rattle.fancy_regex_meta.specs.MetaMatches.{meta_match};
+ghost use Rattle.fancy_regex_search.specs.MetaMatches.{meta_match};
 ghost use Rattle.fancy_regex_search.specs.declared.regex.Regex.{Regex};
 ghost use Rattle.fancy_regex.specs.SetAnswers.{answer_of_set, last_tried, IsSetError, SearchesInLimits, IsAnswerOfSet, IsAnswerOfOne, IsMatchOfMember};
 
@@ -9,7 +9,7 @@ use crate::set::RegexSet;
 use crate::set_matches::{MembersAt, RegexSetMatchesAt};
 use fancy_regex_input::{Input, RegexInput, SearchConfig};
 use fancy_regex_meaning::laws_of_matches;
-use fancy_regex_meta::{MetaMemory, Result};
+use fancy_regex_search::{Result, SearchMemory};
 use std::alloc::Global;
 
 /// The last position that a search tries: the end of its range, or, if it is anchored, the position at which it starts.
@@ -97,7 +97,7 @@ impl RegexSet {
         let mut position = input.effective_start();
         let _text = haystack.as_bytes();
         let last = last_position(&config);
-        let mut memory = MetaMemory::new(alloc);
+        let mut memory = SearchMemory::new(alloc);
         while position <= last {
             let members = MembersAt {
                 alloc,

@@ -1,8 +1,8 @@
 //! The start table of a set: which of its members may match at a place, by the byte there.
 
 ghost use Rattle.std.specs.Prelude.{◌≡◌, IfOk, IfErr, IfSome, List, map};
-ghost use Rattle.fancy_regex_meta.specs.SeekTables.{marked};
-ghost use Rattle.fancy_regex_meta.specs.declared.error.Error.TheVariants.{Memory};
+ghost use Rattle.fancy_regex_search.specs.SeekTables.{marked};
+ghost use Rattle.fancy_regex_search.specs.Error.TheVariants.{Memory};
 ghost use Rattle.fancy_regex_search.specs.declared.regex.Regex.{Regex};
 ghost use Rattle.fancy_regex.specs.ByteSetLaws.{FindsOnlyIn};
 ghost use Rattle.fancy_regex.specs.SetMembers.{AreBuiltOf};
@@ -10,7 +10,7 @@ ghost use Rattle.fancy_regex.specs.SetStarts.{HaveStarts, PassesOver};
 
 use crate::options_builder::RegexOptionsBuilder;
 use crate::start_table::{StartBytes, StartTable};
-use fancy_regex_meta::{Error, Result};
+use fancy_regex_search::{Error, Result};
 use std::alloc::Global;
 
 /// The bytes that the matches of a pattern start with; `None` where they are not known, and where `regex` rejects a class of the

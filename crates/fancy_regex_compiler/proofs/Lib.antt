@@ -27,3 +27,4 @@ mod WorkLemmas
 mod StepLemmas
 mod BranchSteps
 mod OutcomeLemmas
+pub use Rattle.fancy_regex_compiled.proofs.Sending

@@ -6,3 +6,6 @@ pub mod Extents
 pub mod Refusals
 pub mod Tasks
 pub mod Tails
+-- the program that a pattern compiles to
+pub use Rattle.fancy_regex_compiled.specs.Programs
+pub use Rattle.fancy_regex_compiled.specs.declared.prog.Prog

@@ -20,3 +20,4 @@ mod task;
 mod writing;
 
 pub use compiler::compile;
+pub use fancy_regex_compiled::Prog;

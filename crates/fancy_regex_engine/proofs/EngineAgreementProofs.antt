@@ -10,7 +10,7 @@ use Rattle.fancy_regex_class.specs.RunInputs.{setting_for, search_for, group_slo
 use Rattle.fancy_regex_class.specs.declared.input.RunInput.{RunInput}
 use Rattle.fancy_regex_machine.specs.SearchAnswers.{match_places}
 use Rattle.fancy_regex_machine.specs.RunArguments.{run_parameters_for}
-use Rattle.fancy_regex_prefilter.specs.RunContexts.{may_start}
+use Rattle.fancy_regex_machine.specs.RunContexts.{may_start}
 use Rattle.fancy_regex_machine.specs.declared.search.RunOptions.{RunOptions}
 use Rattle.fancy_regex_engine.specs.EngineAgreement.{EnginesAgree, TriesAllStarts}
 

@@ -5,13 +5,13 @@ use Rattle.std.specs.declared.alloc.Global.{Global}
 use Rattle.fancy_regex_meaning.specs.Groups.{Pattern}
 use Rattle.fancy_regex_meaning.specs.Searches.{first_match}
 use Rattle.fancy_regex_desugar.specs.Unfolded.{core_pattern_of}
-use Rattle.fancy_regex_program_laws.specs.ProgramLaws.{RunRequirements}
-use Rattle.fancy_regex_compiled.specs.declared.prog.Prog.{Prog}
+use Rattle.fancy_regex_machine.specs.ProgramLaws.{RunRequirements}
+use Rattle.fancy_regex_compiler.specs.Prog.{Prog}
 use Rattle.fancy_regex_class.specs.RunInputs.{setting_for, search_for, match_slots}
 use Rattle.fancy_regex_linear.specs.EasyPatterns.{IsEasyOf}
 use Rattle.fancy_regex_linear.specs.declared.easy.Easy.{Easy}
 use Rattle.fancy_regex_class.specs.declared.input.RunInput.{RunInput}
-use Rattle.fancy_regex_compiled.specs.Programs.{IsProgramOf}
+use Rattle.fancy_regex_compiler.specs.Programs.{IsProgramOf}
 use Rattle.fancy_regex_machine.specs.SearchAnswers.{Answered}
 use Rattle.fancy_regex_machine.specs.RunArguments.{run_parameters_for}
 use Rattle.fancy_regex_machine.specs.declared.error.RuntimeError.{RuntimeError}

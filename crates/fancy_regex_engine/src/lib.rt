@@ -9,8 +9,7 @@ pub use fancy_regex_analysis::{analyze, can_compile_as_anchored, is_well_formed}
 pub use fancy_regex_class::{
     CaseiLiteral, CharClassMatcher, ClassError, Counted, RunInput, Span, Steps, fold, is_word,
 };
-pub use fancy_regex_compiled::Prog;
-pub use fancy_regex_compiler::compile;
+pub use fancy_regex_compiler::{Prog, compile};
 pub use fancy_regex_info::{AnalyzeContext, BytesMode, CompileError, CompileOptions, Info};
 pub use fancy_regex_linear::Easy;
 pub use fancy_regex_machine::{

@@ -8,7 +8,7 @@ use Rattle.fancy_regex.specs.Searches.{Match}
 use Rattle.fancy_regex.specs.SetAnswers.{IsMatchOfMember}
 use Rattle.fancy_regex.specs.Ways.{Pairs}
 use Rattle.fancy_regex_meaning.specs.Groups.{Pattern}
-use Rattle.fancy_regex_search.specs.declared.regex.Regex.{Regex}
+use Rattle.fancy_regex.specs.Regex.{Regex}
 use Rattle.fancy_regex_ffi_lists.specs.Groups.{IsGroupOf, AreGroupsFrom, AreGroupsAdded, AreGroupsOfMember, AreGroupsOfEach}
 use Rattle.fancy_regex_ffi_lists.specs.declared.member.Member.{Member}
 

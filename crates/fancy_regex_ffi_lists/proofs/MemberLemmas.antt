@@ -8,7 +8,7 @@ use Rattle.fancy_regex.specs.Error.{Error}
 use Rattle.fancy_regex.specs.Error.TheVariants as errors
 use Rattle.fancy_regex.specs.SetAnswers.{answer_of_set, found_from, AreInLimits, AreInLimitsBefore, IsAnswerOfSet, IsErrorOfMember, IsSetError}
 use Rattle.fancy_regex.proofs.SetLimitLemmas.{limits_join}
-use Rattle.fancy_regex_search.specs.declared.regex.Regex.{Regex}
+use Rattle.fancy_regex.specs.Regex.{Regex}
 use Rattle.fancy_regex_ffi_lists.specs.Lists.{members_found, IsErrorAtAnswer, IsMemberError}
 
 -- an error is no member

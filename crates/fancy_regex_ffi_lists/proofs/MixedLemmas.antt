@@ -3,12 +3,12 @@ use Rattle.std.proofs.Common.{◌≡◌, ℕ, ◌+◌, ◌<◌, ◌≤◌, List,
 use Rattle.std.specs.Prelude.{slice_get, option_map, string_bytes}
 use Rattle.std.proofs.lemmas.List.{take_more, take-map, map-append, length-map, length-take-le}
 use Rattle.std.proofs.lemmas.Option.{slice_get-map, slice_get-get_or}
-use Rattle.fancy_regex_meta.specs.Caps.{MetaKeepsCap}
-use Rattle.fancy_regex_meta.specs.Refusals.{Accepts, Refuses}
-use Rattle.fancy_regex_meta.specs.declared.options.RegexOptions.{RegexOptions}
-use Rattle.fancy_regex_meta.specs.declared.error.Error.{Error}
-use Rattle.fancy_regex_meta.specs.declared.error.Error.TheVariants as told
-use Rattle.fancy_regex_search.specs.declared.regex.Regex.{Regex}
+use Rattle.fancy_regex.specs.Caps.{MetaKeepsCap}
+use Rattle.fancy_regex.specs.Refusals.{Accepts, Refuses}
+use Rattle.fancy_regex.specs.RegexOptions.{RegexOptions}
+use Rattle.fancy_regex.specs.Error.{Error}
+use Rattle.fancy_regex.specs.Error.TheVariants as told
+use Rattle.fancy_regex.specs.Regex.{Regex}
 use Rattle.fancy_regex.specs.SetMembers.{IsBuiltOf}
 use Rattle.fancy_regex_ffi_lists.specs.Choices.{chosen}
 use Rattle.fancy_regex_ffi_lists.specs.Mixed.{AreBuiltEach, AcceptsEach, RefusesEach}

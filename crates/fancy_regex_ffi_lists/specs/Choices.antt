@@ -1,7 +1,7 @@
 -- The options of a build, as the library has them.
 use Rattle.std.specs.Prelude.{ℕ, Bool, true, false, Option, Some, None}
-use Rattle.fancy_regex_meta.specs.declared.options.RegexOptions.{RegexOptions}
-use Rattle.fancy_regex_meta.specs.Defaults.{default_options}
+use Rattle.fancy_regex.specs.RegexOptions.{RegexOptions}
+use Rattle.fancy_regex.specs.Defaults.{default_options}
 use Rattle.fancy_regex_ffi_lists.specs.declared.options.Options.{Options}
 
 -- the cap, if there is one

@@ -6,7 +6,7 @@ use Rattle.fancy_regex.specs.RunInputs.{match_slots}
 use Rattle.fancy_regex.specs.SearchConfig.{SearchConfig}
 use Rattle.fancy_regex.specs.Searches.{Match}
 use Rattle.fancy_regex.specs.SetAnswers.{answer_of_set}
-use Rattle.fancy_regex_search.specs.declared.regex.Regex.{Regex}
+use Rattle.fancy_regex.specs.Regex.{Regex}
 use Rattle.fancy_regex_ffi_lists.specs.Lists.{members_found}
 use Rattle.fancy_regex_ffi_lists.specs.Spans.{span_of}
 use Rattle.fancy_regex_ffi_lists.specs.declared.member.Member.{Member}

@@ -6,7 +6,7 @@ use Rattle.fancy_regex.specs.SearchInputs.{whole}
 use Rattle.fancy_regex.specs.Error.{Error}
 use Rattle.fancy_regex.specs.Error.TheVariants.{Memory}
 use Rattle.fancy_regex.specs.SetAnswers.{answer_of_set, AreInLimits, AreInLimitsBefore, IsErrorOfMember, IsSetError}
-use Rattle.fancy_regex_search.specs.declared.regex.Regex.{Regex}
+use Rattle.fancy_regex.specs.Regex.{Regex}
 use Rattle.fancy_regex_ffi_lists.specs.Spans.{span_of}
 use Rattle.fancy_regex_ffi_lists.specs.declared.member.Member.{Member}
 use Rattle.fancy_regex_ffi_lists.specs.declared.spans.Span.{Span}

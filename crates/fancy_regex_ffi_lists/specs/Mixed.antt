@@ -1,9 +1,9 @@
 -- Sets whose members have options of their own.
 use Rattle.std.specs.Prelude.{◌≡◌, ⊤, ℕ, List, [], ◌∷◌, take, Some, slice_get}
-use Rattle.fancy_regex_meta.specs.Refusals.{Accepts, Refuses}
-use Rattle.fancy_regex_meta.specs.declared.error.Error.{Error}
-use Rattle.fancy_regex_meta.specs.declared.error.Error.TheVariants as told
-use Rattle.fancy_regex_search.specs.declared.regex.Regex.{Regex}
+use Rattle.fancy_regex.specs.Refusals.{Accepts, Refuses}
+use Rattle.fancy_regex.specs.Error.{Error}
+use Rattle.fancy_regex.specs.Error.TheVariants as told
+use Rattle.fancy_regex.specs.Regex.{Regex}
 use Rattle.fancy_regex.specs.SetMembers.{IsBuiltOf}
 use Rattle.fancy_regex_ffi_lists.specs.Choices.{chosen}
 use Rattle.fancy_regex_ffi_lists.specs.declared.options.Options.{Options}

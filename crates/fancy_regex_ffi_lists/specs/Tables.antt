@@ -3,8 +3,8 @@ use Rattle.std.specs.Prelude.{◌≡◌, ℕ, ◌<◌, ◌≤◌, Bool, true, fa
 use Rattle.fancy_regex_bytes.specs.ByteSets.{Bytes}
 use Rattle.fancy_regex_bytes.specs.StartBytes as starts
 use Rattle.fancy_regex_bytes.specs.RequiredBytes as required
-use Rattle.fancy_regex_meta.specs.Patterns.{tree_in}
-use Rattle.fancy_regex_meta.specs.declared.options.RegexOptions.{RegexOptions}
+use Rattle.fancy_regex.specs.Patterns.{tree_in}
+use Rattle.fancy_regex.specs.RegexOptions.{RegexOptions}
 use Rattle.fancy_regex.specs.ByteSetLaws.{MatchesStartIn, MatchesRequire}
 
 -- For each byte that the table has room for, whether it is in the set. After the 256 bytes the table is as it was.

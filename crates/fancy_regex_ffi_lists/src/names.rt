@@ -1,9 +1,9 @@
 //! The names of the groups of a regex.
 
 ghost use Rattle.std.specs.Prelude.{◌≡◌, ◌++◌, [], ◌∷◌, length, chars, string_bytes, option_map, IfOk, IfErr, OnOk};
-ghost use Rattle.fancy_regex_meta.specs.MetaMatches.{meta_pattern};
-ghost use Rattle.fancy_regex_meta.specs.declared.error.Error.TheVariants.{Memory};
-ghost use Rattle.fancy_regex_search.specs.GroupLookup.{meta_group_names};
+ghost use Rattle.fancy_regex.specs.MetaMatches.{meta_pattern};
+ghost use Rattle.fancy_regex.specs.Error.TheVariants.{Memory};
+ghost use Rattle.fancy_regex.specs.GroupLookup.{meta_group_names};
 ghost use Rattle.fancy_regex_ffi_lists.specs.Names.{name_line, name_lines};
 
 use fancy_regex::{Regex, Result};

@@ -2,7 +2,7 @@
 
 ghost use Rattle.std.specs.Prelude.{◌≡◌, IfOk, IfErr};
 ghost use Rattle.fancy_regex_bytes.specs.ByteSets.{has};
-ghost use Rattle.fancy_regex_meta.specs.Reading.{IsReadingError};
+ghost use Rattle.fancy_regex.specs.Reading.{IsReadingError};
 ghost use Rattle.fancy_regex.specs.ByteSetLaws.{IsStartBytesError};
 ghost use Rattle.fancy_regex_ffi_lists.specs.Choices.{chosen};
 ghost use Rattle.fancy_regex_ffi_lists.specs.Tables.{IsMarked, AreStartsMarked, AreRequiredMarked};

@@ -1,25 +1,46 @@
 //! A fuzzer of `fancy_regex`: makes patterns, texts, templates, options and inputs at random, runs the public calls on them and
 //! checks what has to hold between their answers. The words are the seed and the number of cases, 1 and
 //! 5,000 if they are not given. It stops at the first contradiction and prints the shortest pattern that it finds for it.
-//! It tells how the cases ended, counted by the kind of their patterns. Exit status: 0 without a contradiction, 1 with one, 2 if it
+//! It tells how the cases ended, counted by the kind of their patterns. Counts in patterns are digits, and programs and searches are
+//! limited, so a case takes little memory and time. Exit status: 0 without a contradiction, 1 with one, 2 if it
 //! cannot run or runs out of memory.
 #![tactic(auto)]
 
+mod bytes;
+mod case;
+mod check;
+mod ending;
+mod engines;
 mod fault;
+mod groups;
+mod iteration;
+mod part;
+mod pattern;
+mod random;
+mod refused;
+mod replacing;
 mod report;
+mod searches;
+mod sets;
+mod setting;
+mod shrink;
+mod states;
+mod tables;
+mod text;
+mod variants;
 
-use fancy_regex_fuzz_checks::case::Case;
-use fancy_regex_fuzz_checks::ending::{Ending, ending_of};
-use fancy_regex_fuzz_checks::part::Part;
-use fancy_regex_fuzz_checks::pattern::{Kind, make_pattern};
-use fancy_regex_fuzz_checks::random::Random;
-use fancy_regex_fuzz_checks::setting::Setting;
-use fancy_regex_fuzz_checks::shrink::shortest_pattern;
-use fancy_regex_fuzz_checks::text::{make_template, make_text};
+use case::Case;
+use ending::{Ending, ending_of};
 use fault::FuzzError;
+use part::Part;
+use pattern::{Kind, make_pattern};
+use random::Random;
 use report::{Report, print_contradiction};
+use setting::Setting;
+use shrink::shortest_pattern;
 use std::env;
 use std::process::ExitCode;
+use text::{make_template, make_text};
 
 /// The seed if none is given.
 const SEED: u64 = 1;

@@ -1,10 +1,10 @@
 //! What is printed: how the cases ended, counted by the kind of their patterns, and a contradiction.
 
+use crate::case::Case;
+use crate::check::Check;
+use crate::ending::Ending;
 use crate::fault::FuzzError;
-use fancy_regex_fuzz_checks::case::Case;
-use fancy_regex_fuzz_checks::check::Check;
-use fancy_regex_fuzz_checks::ending::Ending;
-use fancy_regex_fuzz_checks::pattern::Kind;
+use crate::pattern::Kind;
 
 /// How the cases of a kind ended.
 #[derive(Clone, Copy)]

@@ -7,3 +7,6 @@ pub mod MachineLimits
 pub mod SearchAnswers
 pub mod RunAnswers
 pub mod Threads
+-- what a run needs of a program, and where an attempt may start
+pub use Rattle.fancy_regex_program_laws.specs.ProgramLaws
+pub use Rattle.fancy_regex_prefilter.specs.RunContexts

@@ -10,8 +10,8 @@ use Rattle.fancy_regex_class.specs.declared.input.RunInput.{RunInput}
 use Rattle.fancy_regex_desugar.specs.Unfolded.{core_pattern_of}
 use Rattle.fancy_regex_program.specs.Machine.{unset, RunParameters, Ending}
 use Rattle.fancy_regex_program.specs.Shapes.{IsWritable}
-use Rattle.fancy_regex_compiled.specs.declared.prog.Prog.{Prog}
-use Rattle.fancy_regex_program_laws.specs.ProgramLaws.{first_group_number, RunRequirements}
+use Rattle.fancy_regex_compiler.specs.Prog.{Prog}
+use Rattle.fancy_regex_machine.specs.ProgramLaws.{first_group_number, RunRequirements}
 use Rattle.fancy_regex_machine.specs.SearchAnswers.{match_places, found_match, found_choices, Answered, AnsweredSpan}
 use Rattle.fancy_regex_machine.specs.MachineLimits.{MachinePassesLimit}
 use Rattle.fancy_regex_machine.specs.RunArguments.{run_parameters_for, machine_ending, AgreesOnGroups, AgreesOnSpan}

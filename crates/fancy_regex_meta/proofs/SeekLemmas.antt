@@ -16,7 +16,7 @@ use Rattle.fancy_regex_info.specs.declared.error.CompileError.TheVariants.{Repea
 use Rattle.fancy_regex_analysis.specs.NodeErrors.{some_node, shows}
 use Rattle.fancy_regex_analysis.proofs.NodeListLemmas.{some_node_is}
 use Rattle.fancy_regex_bytes.proofs.InOrderLemmas.{in_order}
-use Rattle.fancy_regex_prefilter.specs.RunContexts.{may_start}
+use Rattle.fancy_regex_machine.specs.RunContexts.{may_start}
 use Rattle.fancy_regex_machine.specs.RunArguments.{run_parameters_for}
 use Rattle.fancy_regex_machine.specs.SearchAnswers.{found_match, found_choices}
 use Rattle.fancy_regex_meta.specs.Refusals.{HasNoCause}

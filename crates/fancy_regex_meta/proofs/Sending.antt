@@ -3,7 +3,7 @@ use denote.Param.Send.{IsSend, sendable}
 use Rattle.std.proofs.Crossing.{crosses}
 use Rattle.std.proofs.MapsCrossing as maps
 use Rattle.fancy_regex_linear.proofs.easy.Easy.TheSendSync as easy
-use Rattle.fancy_regex_compiled.proofs.Sending.{program_send}
+use Rattle.fancy_regex_compiler.proofs.Sending.{program_send}
 use Rattle.fancy_regex_regular.proofs.regular.Regular.TheSendSync as states
 use Rattle.fancy_regex_meta.proofs.options.RegexOptions.TheSendSync as options
 use Rattle.fancy_regex_meta.specs.contracts.meta_regex.MetaRegex as regex

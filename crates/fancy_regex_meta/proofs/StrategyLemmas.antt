@@ -10,7 +10,7 @@ use Rattle.fancy_regex_info.specs.declared.info.Info.{Info}
 use Rattle.fancy_regex_info.specs.Views.{pattern_in}
 use Rattle.fancy_regex_info.specs.declared.error.CompileError.{CompileError}
 use Rattle.fancy_regex_linear.specs.EasyPatterns.{IsEasyOf}
-use Rattle.fancy_regex_compiled.specs.declared.prog.Prog.{Prog}
+use Rattle.fancy_regex_compiler.specs.Prog.{Prog}
 use Rattle.fancy_regex_linear.specs.declared.easy.Easy.{Easy}
 use Rattle.fancy_regex_regular.specs.Regulars.{IsRegularOf}
 use Rattle.fancy_regex_regular.specs.Supported.{IsSupported}

@@ -10,7 +10,7 @@ use Rattle.fancy_regex_class.specs.RunInputs.{setting_for}
 use Rattle.fancy_regex_linear.specs.Find.{attempted}
 use Rattle.fancy_regex_class.specs.declared.input.RunInput.{RunInput}
 use Rattle.fancy_regex_program.specs.Machine.{Ending}
-use Rattle.fancy_regex_compiled.specs.declared.prog.Prog.{Prog}
+use Rattle.fancy_regex_compiler.specs.Prog.{Prog}
 use Rattle.fancy_regex_machine.specs.MachineLimits.{MachinePassesLimit}
 use Rattle.fancy_regex_machine.specs.RunArguments.{machine_ending}
 use Rattle.fancy_regex_machine.specs.declared.error.RuntimeError.{RuntimeError}

@@ -6,9 +6,9 @@ use Rattle.fancy_regex_meaning.specs.Searches.{Search}
 use Rattle.fancy_regex_meaning.specs.SizeLaws.{IsInOrder}
 use Rattle.fancy_regex_desugar.specs.Unfolded.{core_pattern_of}
 use Rattle.fancy_regex_desugar.specs.Shapes.{StepsBackOnlyFirst}
-use Rattle.fancy_regex_compiled.specs.Programs.{IsProgramOf, KeepsCap}
+use Rattle.fancy_regex_compiler.specs.Programs.{IsProgramOf, KeepsCap}
 use Rattle.fancy_regex_program.specs.Shapes.{IsWritable}
-use Rattle.fancy_regex_compiled.specs.declared.prog.Prog.{Prog}
+use Rattle.fancy_regex_compiler.specs.Prog.{Prog}
 use Rattle.fancy_regex_linear.specs.EasyPatterns.{IsEasyOf}
 use Rattle.fancy_regex_linear.specs.declared.easy.Easy.{Easy as EasyMatcher}
 use Rattle.fancy_regex_regular.specs.Regulars.{IsRegularOf}

@@ -15,6 +15,7 @@ mod seek;
 mod strategy;
 
 pub use error::{Error, Result};
+pub use fancy_regex_machine::RuntimeError;
 pub use found::{FoundMatch, MatchDetail};
 pub use memory::MetaMemory;
 pub use meta_regex::MetaRegex;

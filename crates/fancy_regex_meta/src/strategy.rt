@@ -9,7 +9,7 @@ ghost use Rattle.fancy_regex_meaning.specs.Groups.{pattern_of};
 ghost use Rattle.fancy_regex_meaning.specs.Searches.{first_match};
 ghost use Rattle.fancy_regex_meaning.specs.SizeLaws.{IsInOrder};
 ghost use Rattle.fancy_regex_program.specs.Caps.{IsPastCap};
-ghost use Rattle.fancy_regex_compiled.specs.Programs.{KeepsCap};
+ghost use Rattle.fancy_regex_compiler.specs.Programs.{KeepsCap};
 ghost use Rattle.fancy_regex_compiler.specs.Refusals.{IsClear, ReadsClasses};
 ghost use Rattle.fancy_regex_info.specs.Analysis.{analysis};
 ghost use Rattle.fancy_regex_analysis.specs.AnalysisErrors.{is_too_complex};
@@ -43,8 +43,7 @@ use crate::options::RegexOptions;
 use crate::run_work::RunWork;
 use crate::seek::seek_table;
 use fancy_regex_class::{RunInput, Steps};
-use fancy_regex_compiled::Prog;
-use fancy_regex_compiler::compile;
+use fancy_regex_compiler::{Prog, compile};
 use fancy_regex_info::{CompileError, CompileOptions, Info};
 use fancy_regex_linear::{Easy, SearchMemory};
 use fancy_regex_machine::{
@@ -397,7 +396,7 @@ fn search_uncounted(
 }
 
 impl Strategy {
-    ghost use Rattle.fancy_regex_compiled.specs.Programs.{RefersToGroups};
+    ghost use Rattle.fancy_regex_compiler.specs.Programs.{RefersToGroups};
     ghost use Rattle.fancy_regex_meta.specs.Strategies.{is_whole};
     ghost use Rattle.fancy_regex_meta.specs.EasyPatterns.{uses_easy};
     ghost use Rattle.fancy_regex_meta.specs.LinearPatterns.{IsLinear};

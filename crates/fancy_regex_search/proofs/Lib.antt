@@ -11,3 +11,5 @@ pub mod ResultLemmas
 pub mod GroupTextLemmas
 pub mod NameSearchLemmas
 pub mod IterationProgress
+pub use Rattle.fancy_regex_meta.proofs.MatchOffsetLemmas
+pub use Rattle.fancy_regex_meta.proofs.SearchLemmas

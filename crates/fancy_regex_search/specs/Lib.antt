@@ -13,3 +13,20 @@ pub mod Replacements
 pub mod GroupTexts
 pub mod TemplateLaws
 pub mod TemplateChecks
+-- what its clauses cite of the meta layer, under this crate's name
+pub use Rattle.fancy_regex_meta.specs.Patterns
+pub use Rattle.fancy_regex_meta.specs.PatternMatches
+pub use Rattle.fancy_regex_meta.specs.MetaMatches
+pub use Rattle.fancy_regex_meta.specs.Defaults
+pub use Rattle.fancy_regex_meta.specs.Caps
+pub use Rattle.fancy_regex_meta.specs.EasyPatterns
+pub use Rattle.fancy_regex_meta.specs.Refusals
+pub use Rattle.fancy_regex_meta.specs.SearchLimits
+pub use Rattle.fancy_regex_meta.specs.MatchOffsets
+pub use Rattle.fancy_regex_meta.specs.MemberSearches
+pub use Rattle.fancy_regex_meta.specs.SeekTables
+pub use Rattle.fancy_regex_meta.specs.GroupNames
+pub use Rattle.fancy_regex_meta.specs.Reading
+pub use Rattle.fancy_regex_meta.specs.declared.options.RegexOptions
+pub use Rattle.fancy_regex_meta.specs.declared.error.Error
+pub use Rattle.fancy_regex_meta.specs.declared.meta_regex.MetaRegex

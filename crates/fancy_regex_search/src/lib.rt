@@ -26,7 +26,7 @@ pub use anchored::{AnchoredMatch, match_at};
 pub use capture_matches::CaptureMatches;
 pub use captures::{Captures, SubCaptureMatches};
 pub use expander::{Expander, escape};
-pub use fancy_regex_meta::MetaMemory as SearchMemory;
+pub use fancy_regex_meta::{Error, MetaMemory as SearchMemory, RegexOptions, Result, RuntimeError};
 pub use matches::Matches;
 pub use names::CaptureNames;
 pub use replacer::{FnReplacer, NoExpand, Replacer, ReplacerRef};

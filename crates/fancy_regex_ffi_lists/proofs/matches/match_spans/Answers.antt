@@ -5,7 +5,7 @@ use Rattle.fancy_regex.specs.SearchConfig.{SearchConfig}
 use Rattle.fancy_regex.specs.Searches.{Match}
 use Rattle.fancy_regex.specs.SearchInputs.{whole}
 use Rattle.fancy_regex.specs.RemainingMatches.{remaining_matches, all_matches}
-use Rattle.fancy_regex_search.proofs.IterationProgress.{iterated_first, iterated_next, iterated_stays, iterated_fails}
+use Rattle.fancy_regex.proofs.IterationProgress.{iterated_first, iterated_next, iterated_stays, iterated_fails}
 use Rattle.fancy_regex.proofs.SearchErrorLemmas.{item_error_is, memory_is_error}
 use Rattle.fancy_regex.proofs.TextMatchLemmas.{all_are}
 use Rattle.fancy_regex_ffi_lists.specs.Spans.{span_of}

@@ -3,7 +3,7 @@ use Rattle.std.specs.Prelude.{false, length}
 use Rattle.fancy_regex.specs.SearchInputs.{whole}
 use Rattle.fancy_regex.specs.RemainingMatches.{remaining_matches, all_matches}
 use Rattle.fancy_regex.specs.IterationSearches.{KeepsSearches}
-use Rattle.fancy_regex_search.proofs.IterationProgress.{Iterated}
+use Rattle.fancy_regex.proofs.IterationProgress.{Iterated}
 use Rattle.fancy_regex_ffi_lists.specs.Lists.{gap_spans}
 use Rattle.fancy_regex_ffi_lists.proofs.matches.piece_spans.Given as goal
 

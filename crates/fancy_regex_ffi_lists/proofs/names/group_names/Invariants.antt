@@ -1,6 +1,6 @@
 use Rattle.std.proofs.Common.{◌≡◌, ◌++◌, ◌-◌, ◌≤◌, length, string_bytes}
-use Rattle.fancy_regex_meta.specs.MetaMatches.{meta_pattern}
-use Rattle.fancy_regex_search.specs.GroupLookup.{meta_group_names}
+use Rattle.fancy_regex.specs.MetaMatches.{meta_pattern}
+use Rattle.fancy_regex.specs.GroupLookup.{meta_group_names}
 use Rattle.fancy_regex_ffi_lists.specs.Names.{name_lines}
 use Rattle.fancy_regex_ffi_lists.proofs.names.group_names.Given as goal
 

@@ -1,6 +1,6 @@
 use Rattle.std.proofs.Common.{ap, sym, ◌∙◌}
 use Rattle.fancy_regex_tree.specs.Tree.{tree_of}
-use Rattle.fancy_regex_meta.specs.Patterns.{tree_or_empty}
+use Rattle.fancy_regex_search.specs.Patterns.{tree_or_empty}
 use Rattle.fancy_regex_reprint.specs.Reprinted.{reprinted}
 use Rattle.fancy_regex.proofs.Reprinting.{Laws, reprint_keeps_matches}
 use Rattle.fancy_regex.proofs.options_builder.RegexOptionsBuilder.reprint.Goals as goal

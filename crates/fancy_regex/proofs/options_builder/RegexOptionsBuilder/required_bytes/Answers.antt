@@ -2,7 +2,7 @@ use Rattle.std.proofs.Common.{◌≡◌, ap, sym, subst, ◌∙◌}
 use Rattle.fancy_regex_tree.specs.Tree.{tree_of}
 use Rattle.fancy_regex_bytes.specs.ByteSets.{has}
 use Rattle.fancy_regex_bytes.specs.RequiredBytes.{RequiredBytesHold}
-use Rattle.fancy_regex_meta.specs.Patterns.{tree_or_empty, tree_in}
+use Rattle.fancy_regex_search.specs.Patterns.{tree_or_empty, tree_in}
 use Rattle.fancy_regex.proofs.ByteSetProofs.{required_hold, found_only_with}
 use Rattle.fancy_regex.proofs.options_builder.RegexOptionsBuilder.required_bytes.Goals as goal
 

@@ -1,6 +1,6 @@
 use Rattle.std.proofs.Common.{ap, sym, ◌∙◌}
 use Rattle.fancy_regex_tree.specs.Tree.{tree_of}
-use Rattle.fancy_regex_meta.specs.Patterns.{tree_or_empty}
+use Rattle.fancy_regex_search.specs.Patterns.{tree_or_empty}
 use Rattle.fancy_regex.proofs.ByteSetProofs.{starts_hold_if, only_in_if}
 use Rattle.fancy_regex.proofs.options_builder.RegexOptionsBuilder.start_bytes.Goals as goal
 

@@ -1,6 +1,6 @@
 use Rattle.std.proofs.Common.{◌≡◌, ◌∙◌, ◌≤◌, ℕ, length, sym, ap, subst, refl, arith}
 use Rattle.fancy_regex_input.specs.SearchInputs.{FitsText}
-use Rattle.fancy_regex_meta.specs.SearchLimits.{effective_start}
+use Rattle.fancy_regex_search.specs.SearchLimits.{effective_start}
 use Rattle.fancy_regex.specs.SetAnswers.{last_tried, found_from, AreInLimits}
 use Rattle.fancy_regex.proofs.SetSearchLemmas.{first_cut, answer_first, none_before, found_here, tried_here, none_later, all_later, answer_after}
 use Rattle.fancy_regex.proofs.set.RegexSet.first_answer.Goals as goal

@@ -1,7 +1,7 @@
 use Rattle.std.proofs.Common.{◌≡◌, ◌≤◌, ◌<◌, ◌+◌, ◌-◌, ℕ, [], length, IsCharBoundary}
 use Rattle.fancy_regex_meaning.specs.Positions.{boundaries}
 use Rattle.fancy_regex_meaning.specs.Searches.{first_some}
-use Rattle.fancy_regex_meta.specs.SearchLimits.{effective_start}
+use Rattle.fancy_regex_search.specs.SearchLimits.{effective_start}
 use Rattle.fancy_regex.specs.SetAnswers.{found_from, answer_of_set, last_tried, IsTriedAt, AreInLimitsBefore}
 use Rattle.fancy_regex.proofs.SetPositionLemmas.{answer_at}
 use Rattle.fancy_regex.proofs.set.RegexSet.first_answer.Given as goal

@@ -4,7 +4,7 @@ use Rattle.fancy_regex_tree.specs.Tree.{Tree}
 use Rattle.fancy_regex_meaning.specs.Choices.{program_nodes}
 use Rattle.fancy_regex_meaning.specs.Groups.{pattern_of}
 use Rattle.fancy_regex_program.specs.Caps.{IsPastCap}
-use Rattle.fancy_regex_compiled.specs.Programs.{KeepsCap}
+use Rattle.fancy_regex_compiler.specs.Programs.{KeepsCap}
 use Rattle.fancy_regex_compiler.specs.Refusals.{IsClear, ReadsClasses}
 use Rattle.fancy_regex_analysis.specs.AnalysisErrors.{is_too_complex}
 use Rattle.fancy_regex_info.specs.Analysis.{analysis}

@@ -34,3 +34,5 @@ mod regex_row;
 mod replacing;
 #[cfg(test)]
 mod searching;
+
+fn main() {}

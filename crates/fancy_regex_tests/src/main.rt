@@ -22,3 +22,5 @@ mod sets;
 mod templates;
 #[cfg(test)]
 mod texts;
+
+fn main() {}

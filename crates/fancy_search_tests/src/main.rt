@@ -11,3 +11,5 @@ mod refused_memory;
 mod strangers;
 #[cfg(test)]
 mod words;
+
+fn main() {}

@@ -34,3 +34,6 @@ pub fn matches_are_replaced_plainly()
 pub fn plain_replacement_is_by_cases()
     ensures { PlainReplacementIsByCases }
 {}
+
+/// The laws are theorems, and `replace_plainly` is proved: there is nothing to run.
+fn main() {}

@@ -23,3 +23,5 @@ mod program;
 mod regular;
 #[cfg(test)]
 mod spans;
+
+fn main() {}
