@@ -29,7 +29,7 @@ const UNICODE: u32 = FLAG_UNICODE;
 
 const ONIGURUMA: u32 = FLAG_UNICODE | FLAG_MULTI | FLAG_ONIGURUMA_MODE;
 
-static SEARCHES: [Search; 73] = [
+static SEARCHES: [Search; 79] = [
     // a line break is `\r\n`, or one character
     Search("\\R", UNICODE, "\r\n", Answer::Match(0, 2)),
     Search("\\R\\n", UNICODE, "\r\n", Answer::Nothing),
@@ -84,6 +84,14 @@ static SEARCHES: [Search; 73] = [
     Search("(?!a(*FAIL))a", UNICODE, "a", Answer::Match(0, 1)),
     // a group in a part
     Search("(?=(a))a", UNICODE, "a", Answer::Match(0, 1)),
+    // a look-behind of several characters, or of branches that are not equally long
+    Search("(?<=ab|c)d", UNICODE, "abd", Answer::Match(2, 3)),
+    Search("(?<=ab|c)d", UNICODE, "cd", Answer::Match(1, 2)),
+    Search("(?<=ab|c)d", UNICODE, "bd", Answer::Nothing),
+    Search("(?<!ab|c)d", UNICODE, "abdcdd", Answer::Match(5, 6)),
+    Search("(?<=é.)x", UNICODE, "axéax", Answer::Match(5, 6)),
+    Search("(?<=(?<=a|bc)b)c", UNICODE, "bbcabc", Answer::Match(5, 6)),
+    Search("(?<=(?=.{3}).b)c", UNICODE, "abc", Answer::Match(2, 3)),
     // a conditional: from the first way of its condition the one branch, and where there is none the other
     Search("(?((?=a))ab|c)", UNICODE, "xab", Answer::Match(1, 3)),
     Search("(?((?=a))ab|c)", UNICODE, "ac", Answer::Match(1, 2)),
@@ -121,7 +129,6 @@ static SEARCHES: [Search; 73] = [
     Search("(?(a)b|(c)\\1)", UNICODE, "ab", Answer::NoStates),
     Search("(?(DEFINE)(a))\\g<1>", UNICODE, "a", Answer::NoStates),
     Search("(a)\\1", UNICODE, "aa", Answer::NoStates),
-    Search("(?<=ab)c", UNICODE, "abc", Answer::NoStates),
     Search("a\\Kb", UNICODE, "ab", Answer::NoStates),
 ];
 
@@ -131,8 +138,8 @@ struct Groups(Text, Text, [usize; 6], usize);
 /// No place.
 const UNSET: usize = usize::MAX;
 
-/// Groups in look-aheads, atomic groups and conditionals, as the backtracking program has them.
-static GROUPS: [Groups; 14] = [
+/// Groups in look-arounds, atomic groups and conditionals, as the backtracking program has them.
+static GROUPS: [Groups; 15] = [
     // of the last iteration
     Groups("(a(?=b|(c)))+", "abac", [0, 1, 0, 1, UNSET, UNSET], 6),
     Groups("(a(?=b|(c))b?)+", "abac", [0, 3, 2, 3, 3, 4], 6),
@@ -141,6 +148,8 @@ static GROUPS: [Groups; 14] = [
     Groups("(?=(a|ab)(?!x))ab", "aba", [0, 2, 0, 1, UNSET, UNSET], 4),
     Groups("(?>(a)|b)+c", "abc", [0, 3, 0, 1, UNSET, UNSET], 4),
     Groups("(?:(?=(.*))a)*b", "aab", [0, 3, 1, 3, UNSET, UNSET], 4),
+    // before the start
+    Groups("(?<=(a|b)c)d", "xacd", [3, 4, 1, 2, UNSET, UNSET], 4),
     // a condition keeps what its first way writes
     Groups("(?((a)|b)(?=(c))c|d)", "ac", [0, 2, 0, 1, 1, 2], 6),
     Groups("(?((a)|b)(?=(c))c|d)", "bc", [0, 2, UNSET, UNSET, 1, 2], 6),

@@ -1,7 +1,7 @@
 -- A try depends on what follows only from its start on, and ends there or after it; and the equation of a loop.
 use Rattle.std.proofs.Common.{◌||◌, ◌⊎◌, true≢false, ◌≡◌, ℕ, zero, suc, ◌+◌, ◌*◌, ◌-◌, ◌<◌, ◌≤◌, Bool, true, false, List, Option, Some, None, if◌then◌else◌, nat_lt, refl, sym, ap, ap₂, ◌∙◌, inl, inr, ⊎_elim, arith, ltb-true, leb-true, lt-ltb, le-ltb}
 use Rattle.std.proofs.lemmas.Bool.{cases_lt, and_parts}
-use Rattle.fancy_regex_states.specs.Attempts.{View, reads, Trace, AttemptResult, Continuation, score, better_trace, failed, accept, guard, either, write, save, after_writes, asked, asked_answer, passed, passed_answer, pick}
+use Rattle.fancy_regex_states.specs.Attempts.{View, reads, Trace, AttemptResult, Continuation, score, better_trace, failed, accept, guard, either, write, save, after_writes, asked, asked_answer, passed, passed_answer, pick, resume}
 use Rattle.fancy_regex_linear.specs.Meaning.{is_unbounded}
 use Rattle.fancy_regex_linear.specs.Program.{never_empty}
 use Rattle.fancy_regex_linear.specs.Attempt.{prefer, iterations, times_try, upto_try, star_try, tail_try, attempt}
@@ -41,6 +41,15 @@ pick_agree i same moved same2 moved2 j h m =
 
 pub pick_both : (i : ℕ) (k : Continuation) (j : ℕ) → pick i k k j ≡ k j
 pick_both i k j = ⊎_elim (λ lt. pick_moved i k k j lt) (λ ge. pick_same i k k j ge) (cases_lt i j)
+
+-- where a part ends from its place on, what follows it is what a node picks
+pub resume_pick : (i : ℕ) (same moved : Continuation) (j : ℕ) → i ≤ j → resume i same moved j ≡ pick i same moved j
+unfolding resume pick
+resume_pick i same moved j low =
+    ⊎_elim
+    (λ (lt : i < j). rw (lt-ltb i j lt) refl)
+    (λ (ge : j ≤ i). let at : j ≡ i = omega arith in rw (le-ltb i j ge) (ap same (sym at)))
+    (cases_lt i j)
 
 or_parts : (x y : Bool) → (x || y) ≡ true → (x ≡ true) ⊎ (y ≡ true)
 or_parts true y e = inl refl
@@ -200,7 +209,7 @@ module _ (view : View) (stop : ℕ) where
   looks (repeat lo hi g strict a) Same kept k k2 i p h =
       times_kept Same kept (attempt view stop a) (looks a Same kept) lo _ _ i p
       (λ j c d. tail_kept Same kept (is_unbounded hi) g (attempt view stop a) (looks a Same kept) (hi - lo) k k2 j d (λ l u v. h l (omega arith) v))
-  looks (ask negated a) Same kept k k2 i p h = kept.asks negated _ _ _ (h i (omega arith) p)
+  looks (ask negated back a) Same kept k k2 i p h = kept.asks negated _ _ _ (h i (omega arith) p)
   looks (atomic a) Same kept k k2 i p h =
       let within = looks a (BothWithin i stop) (within_kept i stop view.longest) accept accept i p (λ j c d. (c, d)) in
       kept.passes _ _ _ (λ t e. let ends = end_within i stop (attempt view stop a accept i).answer t within e in h t.end ends.0 ends.1)
@@ -230,7 +239,7 @@ module _ (view : View) (stop : ℕ) where
       let both = and_parts _ _ e in
       times_moves Same kept (attempt view stop a) (looks a Same kept) (moves a both.1 Same kept) lo (ltb-true 0 lo both.0) _ _ i p
       (λ j c d. tail_kept Same kept (is_unbounded hi) g (attempt view stop a) (looks a Same kept) (hi - lo) k k2 j d (λ l u v. h l (omega arith) v))
-  moves (ask negated a) e Same kept k k2 i p h = absurd (true≢false (sym e))
+  moves (ask negated back a) e Same kept k k2 i p h = absurd (true≢false (sym e))
   moves (atomic a) e Same kept k k2 i p h =
       let within = moves a e (BothWithin (i + 1) stop) (within_kept (i + 1) stop view.longest) accept accept i p (λ j c d. (omega arith, d)) in
       kept.passes _ _ _ (λ t same. let ends = end_within (i + 1) stop (attempt view stop a accept i).answer t within same in h t.end (omega (arith, ends.0)) ends.1)

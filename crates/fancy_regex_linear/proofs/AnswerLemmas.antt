@@ -44,6 +44,7 @@ use Rattle.fancy_regex_linear.proofs.SameStartLemmas.{keeps_start}
 NamesBelow-prop : (n : ℕ) (s : State) → IsProp (NamesBelow n s)
 NamesBelow-prop n (S.Read leaf next) = le_prop
 NamesBelow-prop n (S.Look check next) = le_prop
+NamesBelow-prop n (S.Back next) = le_prop
 NamesBelow-prop n (Split first second) = ×_prop le_prop le_prop
 NamesBelow-prop n (Enter g next) = le_prop
 NamesBelow-prop n (Leave g next) = le_prop
@@ -73,7 +74,7 @@ program_does view stop states entry pattern e may =
     subst (λ (m : List State × ℕ). Does view stop m.0 m.1 pattern) e.0 made
 
 abbrev blind : View
-blind = record { has = λ leaf i. false; next = λ i. i; holds = λ test i. false; longest = false; has_parts = true }
+blind = record { has = λ leaf i. false; next = λ i. i; back = λ i. None; holds = λ test i. false; longest = false; has_parts = true }
 
 pub closed : (states : List State) (entry : ℕ) → IsMade states entry → Closed states
 closed states entry made =

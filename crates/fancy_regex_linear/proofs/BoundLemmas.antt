@@ -2,7 +2,7 @@
 use Rattle.std.proofs.Common.{◌≡◌, true≢false, ℕ, zero, suc, ◌*◌, ◌-◌, ◌<◌, ◌≤◌, Bool, true, false, ◌&&◌, List, [], ◌∷◌, ◌++◌, map, if◌then◌else◌, nat_lt, nat_le, set, refl, sym, ap, ap₂, ◌∙◌, ⊎_elim, arith, lt-ltb, le-ltb, le-leb, leb-true, ltb-true}
 use Rattle.std.proofs.lemmas.Bool.{cases_lt, lt-leb, and_parts}
 use Rattle.fancy_regex_states.specs.Attempts.{View, reads}
-use Rattle.fancy_regex_linear.specs.Meaning.{Spot, each, in_order, after_iteration, loop_ways, times_ways, upto_ways, tail_ways, is_unbounded, asked_ways, first_way, ways, ending_by}
+use Rattle.fancy_regex_linear.specs.Meaning.{Spot, each, in_order, after_iteration, loop_ways, times_ways, upto_ways, tail_ways, is_unbounded, asked_ways, first_way, place_before, ways_at, ways, ending_by}
 use Rattle.fancy_regex_linear.specs.Program.{MayAskIn}
 use Rattle.fancy_regex_linear.specs.Re.{Re, nothing, read, test, cat, alt, group, repeat, ask, atomic, conditional}
 use Rattle.fancy_regex_states.specs.declared.atom.Leaf.{Leaf}
@@ -125,7 +125,7 @@ module _ (view : View) (stop : ℕ) where
   ways_end (repeat lo hi g strict a) s p =
       times_ends stop (ways view stop a) (tail_ways (is_unbounded hi) stop g (ways view stop a) (hi - lo)) (ways_end a)
       (tail_ends (is_unbounded hi) stop g (ways view stop a) (ways_end a) (hi - lo)) lo s p
-  ways_end (ask negated a) s p = ask_ends negated s (ways view stop a s) p
+  ways_end (ask negated back a) s p = ask_ends negated s (ways_at (ways view stop a) s (place_before view back s.at)) p
   ways_end (atomic a) s p = first_ends (Between s.at stop) (ways view stop a s) (ways_end a s p)
   ways_end (conditional c a b) s p =
       all_append (Between s.at stop) _ _
@@ -332,6 +332,6 @@ module _ (len stop : ℕ) (fits : stop ≤ len) where
         times_keeps (ways view len a) (tail_ways (is_unbounded hi) len g (ways view len a) (hi - lo)) (ways view stop a) (tail_ways (is_unbounded hi) stop g (ways view stop a) (hi - lo))
         (ways_end view len a) (tail_ends (is_unbounded hi) len g (ways view len a) (ways_end view len a) (hi - lo)) (ways_ending_by a may)
         (tail_keeps (is_unbounded hi) g (ways view len a) (ways view stop a) (ways_end view len a) (ways_ending_by a may) (hi - lo)) lo s p
-    ways_ending_by (ask negated a) may s p = absurd (true≢false (sym may.0))
+    ways_ending_by (ask negated back a) may s p = absurd (true≢false (sym may.0))
     ways_ending_by (atomic a) may s p = absurd (true≢false (sym may.0))
     ways_ending_by (conditional c a b) may s p = absurd (true≢false (sym may.0))

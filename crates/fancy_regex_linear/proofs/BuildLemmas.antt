@@ -1,14 +1,16 @@
 -- The translation of a list of trees, one by one.
-use Rattle.std.proofs.Common.{◌≡◌, ◌≢◌, ◌==◌, not, zero, suc, ℕ, ◌+◌, ◌<◌, ◌≤◌, ◌||◌, ◌&&◌, Bool, false, true≢false, List, [], ◌∷◌, ◌++◌, length, map, take, get_or, refl, sym, ap, ap₂, ◌∙◌, arith, length-append, ne_eqb, Option, Some, None, IfSome, Result, Ok, Err, IfOk}
+use Rattle.std.proofs.Common.{◌≡◌, ◌≢◌, ◌==◌, not, zero, suc, ℕ, ◌+◌, ◌<◌, ◌≤◌, ◌||◌, ◌&&◌, Bool, true, false, true≢false, List, [], ◌∷◌, ◌++◌, length, map, take, get_or, refl, sym, ap, ap₂, ◌∙◌, arith, length-append, ne_eqb, Option, Some, None, IfSome, Result, Ok, Err, IfOk}
 use Rattle.std.proofs.lemmas.List.{take_more, take_all, map-append, append_assoc, append-nil}
 use Rattle.std.specs.List.{Contains}
 use Rattle.std.proofs.lemmas.List.Elements.{All-nil, All-cons, All-append, Contains-append_left, Contains-append_right}
 use Rattle.std.proofs.Math.Bool.{or_assoc, and_assoc, and-true}
 use Rattle.regex_class.proofs.RangesLemmas.{or-false}
-use Rattle.fancy_regex_tree.specs.Tree.{Tree, Text, conditional, look_around, no_trees, trees, tree_of}
+use Rattle.fancy_regex_tree.specs.Tree as tree
+use Rattle.fancy_regex_tree.specs.Tree.{Tree, Trees, Text, any, literal, delegate, no_trees, trees, tree_of, conditional, look_around}
 use Rattle.fancy_regex_tree.specs.declared.expr.LookAround.{LookAround}
 use Rattle.fancy_regex_tree.specs.declared.expr.Expr.{Expr}
 use Rattle.fancy_regex_meaning.specs.Groups.{group_count, row_group_count}
+use Rattle.fancy_regex_meaning.specs.Sizes.{Size, size}
 use Rattle.fancy_regex_class.specs.declared.class.CharClassMatcher.{CharClassMatcher}
 use Rattle.fancy_regex_class.specs.Matchers.{IsMatcherOf}
 use Rattle.fancy_regex_info.specs.declared.error.CompileError.{CompileError}
@@ -17,13 +19,14 @@ use Rattle.fancy_regex_linear.specs.Re as re
 use Rattle.fancy_regex_linear.specs.Re.{Re, cats, alts, cat, alt, shape, shapes}
 use Rattle.fancy_regex_linear.specs.declared.node.Node.{Node}
 use Rattle.fancy_regex_linear.specs.Program.{IsSound, never_empty}
-use Rattle.fancy_regex_linear.specs.Plain.{IsOneChar, IsPlain, ArePlain, IsRegular, AreRegular, asking, looked, look_test, char_leaf, classes, row_classes, re_of, row_of, branches_of}
+use Rattle.fancy_regex_linear.specs.Plain.{IsOneChar, IsPlain, ArePlain, IsRegular, AreRegular, joined, is_negated_look, is_look_behind, look_test, char_leaf, classes, row_classes, re_of, row_of, branches_of, around, each_around}
 use Rattle.fancy_regex_linear.specs.Easy.{HaveMatchers}
 use Rattle.fancy_regex_states.specs.declared.atom.Leaf.{Leaf}
 use Rattle.fancy_regex_linear.specs.Refusals.{IsRead, IsClassCause}
-use Rattle.fancy_regex_linear.specs.Translation.{all_trees, Extends, row_list, all_move, AreSound, BuildsRow}
+use Rattle.fancy_regex_linear.specs.Translation.{all_trees, TreePattern, around_tree, Extends, row_list, all_move, AreSound, BuildsRow}
 use Rattle.fancy_regex_linear.specs.declared.build.Translator.{Translator}
-use Rattle.fancy_regex_linear.proofs.PlainLemmas.{asking_same, has_leaf}
+use Rattle.fancy_regex_linear.proofs.PlainLemmas.{AllOf, IsStill}
+use Rattle.fancy_regex_linear.proofs.PartLemmas.{IsOnePart}
 
 -- what follows of what was answered
 pub if_ok : {X E : Type 0} {P Q : X → Type 0} (r : Result X E) → ((x : X) → P x → Q x) → IfOk r P → IfOk r Q
@@ -45,17 +48,40 @@ plain_added [] t ps p = (p, tt)
 plain_added (u ∷ ts) t ps p = (ps.0, plain_added ts t ps.1 p)
 
 -- a look-around for one character is the test of it
-pub look_is : (unicode : Bool) (k : ℕ) (t : Tree) (how : LookAround) (leaf : Option Leaf) (made body : Re) → IsOneChar t → leaf ≡ char_leaf unicode k t
-    → IfSome leaf (λ l. made ≡ re.test (look_test how l)) → made ≡ looked how (char_leaf unicode k t) body
-look_is unicode k t how None made body one is h = absurd (has_leaf unicode k t one (sym is))
-look_is unicode k t how (Some leaf) made body one is h = h ∙ ap (λ o. looked how o body) is
+pub look_is : (unicode : Bool) (groups : List Tree) (n k : ℕ) (t : Tree) (how : LookAround) (leaf : Option Leaf) (made body : Re) → IsOneChar t
+    → leaf ≡ char_leaf unicode k t → IfSome leaf (λ l. made ≡ re.test (look_test how l)) → made ≡ around unicode groups n k how body t
+unfolding around
+look_is unicode groups n k (any newline crlf) how leaf made body one is h = rw is at h
+look_is unicode groups n k (literal val casei) how leaf made body one is h = rw is at h
+look_is unicode groups n k (delegate class casei) how leaf made body one is h = rw is at h
+look_is unicode groups n k _ how leaf made body one is h = absurd one
 
--- one over another tree asks it
-pub asking_is : (unicode : Bool) (groups : List Tree) (n k : ℕ) (t : Tree) (how : LookAround) (made body : Re) → char_leaf unicode k t ≡ None
-    → made ≡ asking how body → (IsRegular t → body ≡ re_of unicode groups n k t) → IsRegular (look_around t how)
-    → made ≡ looked how (char_leaf unicode k t) (re_of unicode groups n k t)
-asking_is unicode groups n k t how made body none is same regular =
-    is ∙ asking_same t how body (re_of unicode groups n k t) regular same ∙ ap (λ o. looked how o (re_of unicode groups n k t)) (sym none)
+-- one over another tree asks a part, or is one of its branches in a look-behind
+module _ (unicode : Bool) (groups : List Tree) (n k : ℕ) (how : LookAround) (body : Re) where
+  -- a look-ahead asks it from here
+  pub ahead_is : (t : Tree) → char_leaf unicode k t ≡ None → is_look_behind how ≡ false
+      → re.ask (is_negated_look how) 0 body ≡ around unicode groups n k how body t
+  unfolding around
+  ahead_is (any newline crlf) none ahead = cc
+  ahead_is (literal val casei) none ahead = cc
+  ahead_is (delegate class casei) none ahead = cc
+  ahead_is _ none ahead = rw ahead refl
+
+  -- a look-behind asks it from so many characters before
+  pub behind_is : (t : Tree) (s : Size) → char_leaf unicode k t ≡ None → is_look_behind how ≡ true → s ≡ size groups t → IsOnePart s.always t
+      → re.ask (is_negated_look how) s.least body ≡ around unicode groups n k how body t
+  unfolding around
+  behind_is (any newline crlf) s none behind is one = cc
+  behind_is (literal val casei) s none behind is one = cc
+  behind_is (delegate class casei) s none behind is one = cc
+  behind_is (tree.alt ts) s none behind is one = rw (behind, ← is, one) refl
+  behind_is _ s none behind is one = rw (behind, ← is) refl
+
+  -- or looks for each branch
+  pub each_behind : (ts : Trees) (s : Size) → is_look_behind how ≡ true → s ≡ size groups (tree.alt ts) → s.always ≡ false
+      → joined (is_negated_look how) (each_around unicode groups n k how ts) ≡ around unicode groups n k how body (tree.alt ts)
+  unfolding around
+  each_behind ts s behind is more = rw (behind, ← is, more) refl
 
 -- one more tree of a row
 pub trees_more : (es : List Expr) (i : ℕ) (x : Expr) → i < length es → x ≡ get_or es i x
@@ -126,34 +152,40 @@ classes_more [] t = append-nil (classes t)
 classes_more (u ∷ ts) t =
     ap (λ cs. classes u ++ cs) (classes_more ts t) ∙ sym (append_assoc (classes u) (row_classes (trees ts)) (classes t))
 
-module _ (unicode : Bool) (groups : List Tree) where
+module _ (one : TreePattern) (unicode : Bool) (groups : List Tree) where
   pub list_more : (ts : List Tree) (t : Tree) (n k : ℕ)
-      → row_list unicode groups n k (ts ++ t ∷ [])
-      ≡ row_list unicode groups n k ts ++ re_of unicode groups (n + row_group_count (trees ts)) (k + length (row_classes (trees ts))) t ∷ []
+      → row_list one unicode groups n k (ts ++ t ∷ [])
+      ≡ row_list one unicode groups n k ts ++ one unicode groups (n + row_group_count (trees ts)) (k + length (row_classes (trees ts))) t ∷ []
   unfolding row_list group_count classes
   list_more [] t n k =
       let a : n ≡ n + 0 = omega arith in
       let b : k ≡ k + 0 = omega arith in
-      ap₂ (λ (x y : ℕ). re_of unicode groups x y t ∷ []) a b
+      ap₂ (λ (x y : ℕ). one unicode groups x y t ∷ []) a b
   list_more (u ∷ ts) t n k =
       let a : n + group_count u + row_group_count (trees ts) ≡ n + (group_count u + row_group_count (trees ts)) = omega arith in
       let b : k + length (classes u) + length (row_classes (trees ts)) ≡ k + length (classes u ++ row_classes (trees ts)) =
       omega (arith, length-append (classes u) (row_classes (trees ts))) in
-      ap (λ xs. re_of unicode groups n k u ∷ xs)
+      ap (λ xs. one unicode groups n k u ∷ xs)
       (list_more ts t (n + group_count u) (k + length (classes u))
-      ∙ ap₂ (λ (x y : ℕ). row_list unicode groups (n + group_count u) (k + length (classes u)) ts ++ re_of unicode groups x y t ∷ []) a b)
+      ∙ ap₂ (λ (x y : ℕ). row_list one unicode groups (n + group_count u) (k + length (classes u)) ts ++ one unicode groups x y t ∷ []) a b)
 
-  -- a row, and the branches of an alternation
-  pub row_is : (ts : List Tree) (n k : ℕ) → cats (row_list unicode groups n k ts) ≡ row_of unicode groups n k (trees ts)
+module _ (unicode : Bool) (groups : List Tree) where
+  -- a row, the branches of an alternation, and the look-behinds for such branches
+  pub row_is : (ts : List Tree) (n k : ℕ) → cats (row_list re_of unicode groups n k ts) ≡ row_of unicode groups n k (trees ts)
   unfolding row_list re_of
   row_is [] n k = refl
   row_is (t ∷ ts) n k = ap (cat (re_of unicode groups n k t)) (row_is ts _ _)
 
-  pub branches_is : (ts : List Tree) (n k : ℕ) → alts (row_list unicode groups n k ts) ≡ branches_of unicode groups n k (trees ts)
+  pub branches_is : (ts : List Tree) (n k : ℕ) → alts (row_list re_of unicode groups n k ts) ≡ branches_of unicode groups n k (trees ts)
   unfolding row_list re_of
   branches_is [] n k = refl
   branches_is (t ∷ []) n k = refl
   branches_is (t ∷ u ∷ ts) n k = ap (alt (re_of unicode groups n k t)) (branches_is (u ∷ ts) _ _)
+
+  pub each_is : (how : LookAround) (ts : List Tree) (n k : ℕ) → row_list (around_tree how) unicode groups n k ts ≡ each_around unicode groups n k how (trees ts)
+  unfolding row_list each_around
+  each_is how [] n k = refl
+  each_is how (t ∷ ts) n k = ap (λ xs. around unicode groups n k how (re_of unicode groups n k t) t ∷ xs) (each_is how ts _ _)
 
 -- a concatenation consumes a character if one of its children does
 pub row_moves : (xs : List Re) (x : Re) → never_empty (cats (xs ++ x ∷ [])) ≡ (never_empty (cats xs) || never_empty x)
@@ -216,9 +248,9 @@ cause_in_row unicode es i x error h is cause =
     cause_more unicode (classes (tree_of x)) (row_classes (all_trees es)) error (λ c there. class_in es i x c h (rw is at there)) cause
 
 -- no tree of a row was walked over
-pub row_none : (translator : Translator) → BuildsRow translator translator [] []
+pub row_none : (one : TreePattern) (translator : Translator) → BuildsRow one translator translator [] []
 unfolding row_list group_count classes
-row_none translator = record {
+row_none one translator = record {
   unicode = refl;
   matchers = record { count = omega arith; serve = λ ds s. rw (append-nil ds) s; read = All-nil (IsRead translator.unicode) };
   sound = tt;
@@ -227,12 +259,12 @@ row_none translator = record {
 }
 
 -- one more was
-pub row_step : (before mid after : Translator) (ts : List Tree) (xs : List Re) (t : Tree) (x : Re) → BuildsRow before mid ts xs
+pub row_step : (one : TreePattern) (before mid after : Translator) (ts : List Tree) (xs : List Re) (t : Tree) (x : Re) → BuildsRow one before mid ts xs
     → after.unicode ≡ mid.unicode → (IsRegular t → after.next_group ≡ mid.next_group + group_count t)
     → Extends mid.unicode mid.matchers.items after.matchers.items (classes t) → IsSound x
-    → (IsRegular t → (groups : List Tree) → x ≡ re_of mid.unicode groups mid.next_group (length mid.matchers.items) t)
-    → BuildsRow before after (ts ++ t ∷ []) (xs ++ x ∷ [])
-row_step before mid after ts xs t x done unicode groups matchers sound pattern =
+    → (IsRegular t → (groups : List Tree) → x ≡ one mid.unicode groups mid.next_group (length mid.matchers.items) t)
+    → BuildsRow one before after (ts ++ t ∷ []) (xs ++ x ∷ [])
+row_step one before mid after ts xs t x done unicode groups matchers sound pattern =
     let more : Extends before.unicode mid.matchers.items after.matchers.items (classes t) = rw done.unicode at matchers in
     record {
       unicode = unicode ∙ done.unicode;
@@ -243,26 +275,40 @@ row_step before mid after ts xs t x done unicode groups matchers sound pattern =
           let both = regular_more ts t regular in
           ap₂ (λ (ys : List Re) (y : Re). ys ++ y ∷ []) (done.patterns both.0 gs)
           (pattern both.1 gs
-          ∙ ap (λ b. re_of b gs mid.next_group (length mid.matchers.items) t) done.unicode
-          ∙ ap₂ (λ (a b : ℕ). re_of before.unicode gs a b t) (done.groups both.0) done.matchers.count)
-          ∙ sym (list_more before.unicode gs ts t before.next_group (length before.matchers.items));
+          ∙ ap (λ b. one b gs mid.next_group (length mid.matchers.items) t) done.unicode
+          ∙ ap₂ (λ (a b : ℕ). one before.unicode gs a b t) (done.groups both.0) done.matchers.count)
+          ∙ sym (list_more one before.unicode gs ts t before.next_group (length before.matchers.items));
     }
 
 -- the same of the nodes of expressions
-pub nodes_step : (before mid after : Translator) (es : List Expr) (i : ℕ) (e : Expr) (nodes now : List Node) (node : Node) → i < length es
-    → e ≡ get_or es i e → now ≡ nodes ++ node ∷ [] → BuildsRow before mid (map tree_of (take i es)) (shapes nodes)
+pub nodes_step : (one : TreePattern) (before mid after : Translator) (es : List Expr) (i : ℕ) (e : Expr) (nodes now : List Node) (node : Node) → i < length es
+    → e ≡ get_or es i e → now ≡ nodes ++ node ∷ [] → BuildsRow one before mid (map tree_of (take i es)) (shapes nodes)
     → after.unicode ≡ mid.unicode → (IsRegular (tree_of e) → after.next_group ≡ mid.next_group + group_count (tree_of e))
     → Extends mid.unicode mid.matchers.items after.matchers.items (classes (tree_of e)) → IsSound (shape node)
-    → (IsRegular (tree_of e) → (groups : List Tree) → shape node ≡ re_of mid.unicode groups mid.next_group (length mid.matchers.items) (tree_of e))
-    → BuildsRow before after (map tree_of (take (i + 1) es)) (shapes now)
-nodes_step before mid after es i e nodes now node h is added done unicode groups matchers sound pattern =
+    → (IsRegular (tree_of e) → (groups : List Tree) → shape node ≡ one mid.unicode groups mid.next_group (length mid.matchers.items) (tree_of e))
+    → BuildsRow one before after (map tree_of (take (i + 1) es)) (shapes now)
+nodes_step one before mid after es i e nodes now node h is added done unicode groups matchers sound pattern =
     rw (trees_more es i e h is, added, map-append shape nodes (node ∷ []))
-    (row_step before mid after (map tree_of (take i es)) (shapes nodes) (tree_of e) (shape node) done unicode groups matchers sound pattern)
+    (row_step one before mid after (map tree_of (take i es)) (shapes nodes) (tree_of e) (shape node) done unicode groups matchers sound pattern)
 
 -- all of them were
-pub row_whole : (before after : Translator) (es : List Expr) (i : ℕ) (xs : List Re) → length es ≤ i
-    → BuildsRow before after (map tree_of (take i es)) xs → BuildsRow before after (map tree_of es) xs
-row_whole before after es i xs h done = rw (take_all i es h) at done
+pub row_whole : (one : TreePattern) (before after : Translator) (es : List Expr) (i : ℕ) (xs : List Re) → length es ≤ i
+    → BuildsRow one before after (map tree_of (take i es)) xs → BuildsRow one before after (map tree_of es) xs
+row_whole one before after es i xs h done = rw (take_all i es h) at done
+
+-- one more pattern that is never sure to move
+pub still_more : (xs : List Re) (x : Re) → AllOf IsStill xs → never_empty x ≡ false → AllOf IsStill (xs ++ x ∷ [])
+still_more [] x h k = (k, tt)
+still_more (y ∷ ys) x h k = (h.0, still_more ys x h.1 k)
+
+pub nodes_still : (nodes now : List Node) (node : Node) → now ≡ nodes ++ node ∷ [] → AllOf IsStill (shapes nodes) → never_empty (shape node) ≡ false
+    → AllOf IsStill (shapes now)
+nodes_still nodes now node added h k = rw (added, map-append shape nodes (node ∷ [])) (still_more (shapes nodes) (shape node) h k)
+
+-- rows of sound patterns, in either form
+pub all_sound : (xs : List Re) → AreSound xs → AllOf IsSound xs
+all_sound [] h = tt
+all_sound (x ∷ xs) h = (h.0, all_sound xs h.1)
 
 -- the three trees of a conditional were translated one after another
 module _ (u v w : Bool) (ms ns os : List CharClassMatcher) (c a b : Tree) (same_one : v ≡ u) (same_two : w ≡ v) where

@@ -1,9 +1,9 @@
 -- A write to the slot of a group that a pattern lacks may come before its ways or after them.
-use Rattle.std.proofs.Common.{◌≡◌, ℕ, zero, suc, ◌+◌, ◌*◌, ◌-◌, Bool, true, false, List, [], ◌∷◌, ◌++◌, map, if◌then◌else◌, nat_lt, set, refl, sym, ap, ap₂, ◌∙◌, arith}
+use Rattle.std.proofs.Common.{◌≡◌, ℕ, zero, suc, ◌+◌, ◌*◌, ◌-◌, Bool, true, false, List, [], ◌∷◌, ◌++◌, map, Option, Some, None, if◌then◌else◌, nat_lt, set, refl, sym, ap, ap₂, ◌∙◌, arith}
 use Rattle.std.proofs.lemmas.List.{set_comm}
 use Rattle.fancy_regex_linear.specs.Re.{Re, nothing, read, test, cat, alt, group, repeat, ask, atomic, conditional}
 use Rattle.fancy_regex_states.specs.Attempts.{View, reads}
-use Rattle.fancy_regex_linear.specs.Meaning.{Spot, each, in_order, after_iteration, loop_ways, times_ways, upto_ways, tail_ways, is_unbounded, asked_ways, first_way, ways}
+use Rattle.fancy_regex_linear.specs.Meaning.{Spot, each, in_order, after_iteration, loop_ways, times_ways, upto_ways, tail_ways, is_unbounded, asked_ways, first_way, place_before, ways_at, ways}
 
 -- the group k is not in the pattern
 abbrev pub Lacks : ℕ → Re → Type 0
@@ -14,7 +14,7 @@ Lacks k (cat a b) = Lacks k a × Lacks k b
 Lacks k (alt a b) = Lacks k a × Lacks k b
 Lacks k (group g a) = (k ≡ g → ⊥) × Lacks k a
 Lacks k (repeat lo hi greedy strict a) = Lacks k a
-Lacks k (ask negated a) = Lacks k a
+Lacks k (ask negated back a) = Lacks k a
 Lacks k (atomic a) = Lacks k a
 Lacks k (conditional c a b) = Lacks k c × (Lacks k a × Lacks k b)
 
@@ -109,6 +109,10 @@ module _ (j v : ℕ) where
   asked_carries true s [] = refl
   asked_carries true s (w ∷ ws) = refl
 
+  at_carries : (list : Spot → List Spot) → Carries list → (s : Spot) (o : Option ℕ) → ways_at list (put s) o ≡ map put (ways_at list s o)
+  at_carries list h s None = refl
+  at_carries list h s (Some i) = h (record { at = i; slots = s.slots })
+
   first_carries : (ws : List Spot) → first_way (map put ws) ≡ map put (first_way ws)
   first_carries [] = refl
   first_carries (w ∷ ws) = refl
@@ -135,8 +139,9 @@ ways_carry view stop k v (group g a) l s =
 ways_carry view stop k v (repeat lo hi g strict a) l s =
     times_carries (2 * k) v (ways view stop a) (tail_ways (is_unbounded hi) stop g (ways view stop a) (hi - lo)) (ways_carry view stop k v a l)
     (tail_carries (2 * k) v (is_unbounded hi) stop g (ways view stop a) (ways_carry view stop k v a l) (hi - lo)) lo s
-ways_carry view stop k v (ask negated a) l s =
-    ap (asked_ways negated (put (2 * k) v s)) (ways_carry view stop k v a l s) ∙ asked_carries (2 * k) v negated s (ways view stop a s)
+ways_carry view stop k v (ask negated back a) l s =
+    ap (asked_ways negated (put (2 * k) v s)) (at_carries (2 * k) v (ways view stop a) (ways_carry view stop k v a l) s (place_before view back s.at))
+    ∙ asked_carries (2 * k) v negated s (ways_at (ways view stop a) s (place_before view back s.at))
 ways_carry view stop k v (atomic a) l s = ap first_way (ways_carry view stop k v a l s) ∙ first_carries (2 * k) v (ways view stop a s)
 ways_carry view stop k v (conditional c a b) l s =
     let asked = ways view stop c s in

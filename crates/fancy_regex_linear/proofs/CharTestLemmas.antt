@@ -221,6 +221,7 @@ module _ (unicode longest : Bool) (text : List ℕ) (input : RunInput) (ms : Lis
   shows_all u p b = record {
     has = λ leaf. taken unicode longest text input ms cs serve leaf p (char_at text p) refl;
     next = refl;
+    back = refl;
     holds = tests_same text p u b unicode longest input ms cs serve;
     no_parts = refl;
   }

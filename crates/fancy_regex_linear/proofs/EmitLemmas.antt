@@ -1,7 +1,7 @@
 -- The states of a tree do what trying it does.
 use Rattle.std.proofs.Common.{◌≡◌, ℕ, zero, suc, ◌+◌, ◌*◌, ◌<◌, ◌≤◌, ◌⊎◌, Bool, true, false, cond, List, [], ◌∷◌, length, nat_eq, refl, sym, ap, ap₂, ◌∙◌, inl, inr, ⊎_elim, arith, eq-eqb, ne_eqb, length-append}
 use Rattle.std.proofs.lemmas.Bool.{cases_lt}
-use Rattle.fancy_regex_states.specs.Attempts.{View, reads, Continuation, guard, either, save, asked, passed, pick, NamesBelow, MayAsk, visit, Agrees}
+use Rattle.fancy_regex_states.specs.Attempts.{View, reads, Continuation, guard, either, save, asked, passed, resume, stepped, NamesBelow, MayAsk, visit, Agrees}
 use Rattle.fancy_regex_linear.specs.Attempt.{prefer}
 use Rattle.fancy_regex_states.specs.First.{state_at}
 use Rattle.fancy_regex_linear.specs.Program.{loop_head, push, AgreeBut}
@@ -27,6 +27,7 @@ length-push states s = length-append states (s ∷ [])
 pub names_more : (n m : ℕ) (s : State) → n ≤ m → NamesBelow n s → NamesBelow m s
 names_more n m (S.Read leaf next) h x = omega arith
 names_more n m (S.Look check next) h x = omega arith
+names_more n m (S.Back next) h x = omega arith
 names_more n m (Split first second) h x = (omega arith, omega arith)
 names_more n m (Enter g next) h x = omega arith
 names_more n m (Leave g next) h x = omega arith
@@ -48,12 +49,13 @@ module _ (view : View) (stop : ℕ) where
       → visit view stop go2 s i ≡ visit view stop go s i
   visit_same go go2 n (S.Read leaf next) x h i = ap (λ f. guard (reads view stop leaf i) (f (view.next i))) (h next x)
   visit_same go go2 n (S.Look check next) x h i = ap (λ f. guard (view.holds check i) (f i)) (h next x)
+  visit_same go go2 n (S.Back next) x h i = ap (stepped (view.back i) i) (h next x)
   visit_same go go2 n (Split first second) x h i = ap₂ (λ f g. either view.longest (f i) (g i)) (h first x.0) (h second x.1)
   visit_same go go2 n (Enter g next) x h i = ap (λ f. save (2 * g) i (f i)) (h next x)
   visit_same go go2 n (Leave g next) x h i = ap (λ f. save (2 * g + 1) i (f i)) (h next x)
   visit_same go go2 n (Ask part negated next) x h i = ap₂ (λ f g. asked negated (f i) (g i)) (h part x.0) (h next x.1)
   visit_same go go2 n (Atomic part same moved) x h i =
-      ap (λ f. passed (f i) (pick i (go2 same) (go2 moved))) (h part x.0) ∙ ap₂ (λ f g. passed (go part i) (pick i f g)) (h same x.1) (h moved x.2)
+      ap (λ f. passed (f i) (resume i (go2 same) (go2 moved))) (h part x.0) ∙ ap₂ (λ f g. passed (go part i) (resume i f g)) (h same x.1) (h moved x.2)
   visit_same go go2 n Match x h i = refl
 
   pub visit_loop_head : (go : ℕ → Continuation) (g : Bool) (iteration exit i : ℕ)

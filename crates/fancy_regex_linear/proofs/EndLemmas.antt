@@ -1,9 +1,10 @@
 -- Where the ways of a pattern end depends on the place that it is tried from, and not on the slots.
-use Rattle.std.proofs.Common.{◌≡◌, ℕ, zero, suc, ◌*◌, ◌-◌, Bool, true, false, List, [], ◌∷◌, ◌++◌, map, if◌then◌else◌, nat_lt, set, refl, sym, ap, ap₂, ◌∙◌}
+use Rattle.std.proofs.Common.{◌≡◌, ℕ, zero, suc, ◌*◌, ◌-◌, Bool, true, false, List, [], ◌∷◌, ◌++◌, map, Option, Some, None, if◌then◌else◌, nat_lt, set, refl, sym, ap, ap₂, ◌∙◌}
 use Rattle.std.proofs.lemmas.List.{map-append}
+use Rattle.std.proofs.lemmas.Option.{same_Some}
 use Rattle.fancy_regex_states.specs.Attempts.{View, reads}
 use Rattle.fancy_regex_linear.specs.Re.{Re, nothing, read, test, cat, alt, group, repeat, ask, atomic, conditional}
-use Rattle.fancy_regex_linear.specs.Meaning.{Spot, each, in_order, after_iteration, loop_ways, times_ways, upto_ways, tail_ways, is_unbounded, asked_ways, first_way, ways}
+use Rattle.fancy_regex_linear.specs.Meaning.{Spot, each, in_order, after_iteration, loop_ways, times_ways, upto_ways, tail_ways, is_unbounded, asked_ways, first_way, place_before, ways_at, ways}
 
 -- where these ways end
 abbrev pub ends : List Spot → List ℕ
@@ -84,6 +85,12 @@ asked_alike false s u (v ∷ us) (w ∷ ws) e f = ap (λ p. p ∷ []) e
 asked_alike true s u [] [] e f = ap (λ p. p ∷ []) e
 asked_alike true s u (v ∷ us) (w ∷ ws) e f = refl
 
+at_alike : (list : Spot → List Spot) → GoesByPlace list → (s u : Spot) (o p : Option ℕ) → o ≡ p → ends (ways_at list s o) ≡ ends (ways_at list u p)
+at_alike list h s u None None e = refl
+at_alike list h s u None (Some j) e = cc
+at_alike list h s u (Some i) None e = cc
+at_alike list h s u (Some i) (Some j) e = h _ _ (same_Some i j e)
+
 first_alike : (us ws : List Spot) → ends us ≡ ends ws → ends (first_way us) ≡ ends (first_way ws)
 first_alike [] [] e = refl
 first_alike [] (w ∷ ws) e = cc
@@ -111,7 +118,8 @@ module _ (view : View) (stop : ℕ) where
   ways_alike (repeat lo hi g strict a) s u e =
       times_alike (ways view stop a) (tail_ways (is_unbounded hi) stop g (ways view stop a) (hi - lo)) (ways_alike a)
       (tail_alike (is_unbounded hi) stop g (ways view stop a) (ways_alike a) (hi - lo)) lo s u e
-  ways_alike (ask negated a) s u e = asked_alike negated s u (ways view stop a s) (ways view stop a u) e (ways_alike a s u e)
+  ways_alike (ask negated back a) s u e = asked_alike negated s u _ _ e
+      (at_alike (ways view stop a) (ways_alike a) s u _ _ (ap (place_before view back) e))
   ways_alike (atomic a) s u e = first_alike (ways view stop a s) (ways view stop a u) (ways_alike a s u e)
   ways_alike (conditional c a b) s u e =
       let same = ways_alike c s u e in

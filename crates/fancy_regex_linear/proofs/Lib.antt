@@ -29,6 +29,7 @@ pub mod AnswerLemmas
 pub mod ShapeLemmas
 pub mod LineEndLemmas
 pub mod NoClassLemmas
+pub mod PartLemmas
 pub mod BuildLemmas
 pub mod TranslationLemmas
 pub mod RegularStateLemmas

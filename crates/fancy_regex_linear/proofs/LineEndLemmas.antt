@@ -78,13 +78,13 @@ last_newline_is newline pair v x y of_newline e f g of_pair =
 pub text_end_is : (crlf : Bool) (body row : Box Node Global) (q : Quantifier) (v : Vec Node Global) (x y z : List Node)
     → q ≡ record { lo = 0; hi = 18446744073709551615; greedy = true; moves = true } → shape body.value ≡ last_newline crlf
     → x ≡ [] → y ≡ x ++ node.Repeat body q ∷ [] → z ≡ y ++ node.Look (EndLine false) ∷ [] → v.items ≡ z ++ node.Look (LookAheadNeg (Char 10)) ∷ []
-    → row.value ≡ node.Concat v → shape (node.Ask false row) ≡ text_end_re crlf
+    → row.value ≡ node.Concat v → shape (node.Ask false 0 row) ≡ text_end_re crlf
 text_end_is crlf body row q v x y z of_q of_body e f g h of_row =
     let loop : shape (node.Repeat body q) ≡ re.repeat 0 18446744073709551615 true true (last_newline crlf) =
     shape_repeat body q
     ∙ ap₂ (λ (p : Quantifier) (r : Re). re.repeat p.lo p.hi p.greedy p.moves r) of_q of_body in
-    shape_ask false row
-    ∙ ap (re.ask false)
+    shape_ask false 0 row
+    ∙ ap (re.ask false 0)
     (ap shape of_row
     ∙ shape_concat v
     ∙ ap cats (three_added (node.Repeat body q) (node.Look (EndLine false)) (node.Look (LookAheadNeg (Char 10))) x y z v.items e f g h)

@@ -22,7 +22,7 @@ use Rattle.fancy_regex_linear.specs.Re as re
 use Rattle.fancy_regex_states.specs.Attempts.{View, reads}
 use Rattle.fancy_regex_linear.specs.Meaning.{Spot, each, in_order, after_iteration, loop_ways, times_ways, upto_ways, tail_ways, is_unbounded}
 use Rattle.fancy_regex_linear.specs.Meaning as plain
-use Rattle.fancy_regex_linear.specs.Plain.{IsPlain, ArePlain, IsOneChar, IsServed, test_of, served, looked, look_test, char_leaf, has_no_iteration, unless, classes, row_classes, re_of, row_of, branches_of}
+use Rattle.fancy_regex_linear.specs.Plain.{IsPlain, ArePlain, IsOneChar, IsServed, test_of, served, looked, around, look_test, char_leaf, has_no_iteration, unless, classes, row_classes, re_of, row_of, branches_of}
 use Rattle.fancy_regex_class.specs.RunInputs.{group_slots}
 use Rattle.fancy_regex_linear.specs.SettingView.{view_of, leaf_matches, test_holds}
 use Rattle.fancy_regex_states.specs.declared.atom.Leaf.{Leaf}
@@ -283,6 +283,14 @@ module _ (s : Setting) (groups : List Tree) (unicode : Bool) (call : ℕ → Mov
       (delegate class casei) (least_one groups (delegate class casei) tt) how
   look_same n k _ how p h body = absurd p
 
+  pub around_same : (n k : ℕ) (t : Tree) (how : LookAround) (body : Re) → IsOneChar t → StandAt k (classes t)
+      → Same len (ways.look how (meaning s groups call n t)) (plain.ways view len (around unicode groups n k how body t))
+  unfolding around
+  around_same n k (any newline crlf) how body p h = look_same n k (any newline crlf) how p h re.nothing
+  around_same n k (literal val casei) how body p h = look_same n k (literal val casei) how p h re.nothing
+  around_same n k (delegate class casei) how body p h = look_same n k (delegate class casei) how p h re.nothing
+  around_same n k _ how body p h = absurd p
+
   mutual
     unfolding meaning re_of classes plain.ways
 
@@ -298,7 +306,7 @@ module _ (s : Setting) (groups : List Tree) (unicode : Bool) (call : ℕ → Mov
     tree_same n k (group t) p h w q =
         group_same view len n (meaning s groups call (n + 1) t).from (re_of unicode groups (n + 1) k t) (lacks unicode groups n (n + 1) k t (omega arith))
         (tree_same (n + 1) k t p h) w q
-    tree_same n k (look_around t how) p h w q = look_same n k t how p h (re_of unicode groups n k t) w q
+    tree_same n k (look_around t how) p h w q = around_same n k t how (re_of unicode groups n k t) p h w q
     tree_same n k (repeat t lo hi greedy) p h w q =
         out_by s lo hi greedy (meaning s groups call n t).from view _ (has_no_iteration lo hi) (no_iterations lo hi)
         (λ made. repeat_same s lo hi greedy (is_unbounded hi) (meaning s groups call n t).from (plain.ways view len (re_of unicode groups n k t)) refl

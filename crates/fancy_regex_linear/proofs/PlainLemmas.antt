@@ -1,5 +1,5 @@
 -- What the pattern of a tree is: sound, numbered from its first group on and, of a plain tree, no heavier than it.
-use Rattle.std.proofs.Common.{◌≡◌, ◌≢◌, ℕ, zero, suc, ◌+◌, ◌*◌, ◌-◌, ◌<◌, ◌≤◌, ◌==◌, min, max, Bool, true, false, cond, not, ◌&&◌, ◌||◌, List, length, Option, Some, None, nat_lt, refl, sym, ap, ap₂, ◌∙◌, arith, eq-eqb, ne_eqb, lt-ltb, true≢false}
+use Rattle.std.proofs.Common.{◌≡◌, ◌≢◌, ℕ, zero, suc, ◌+◌, ◌*◌, ◌-◌, ◌<◌, ◌≤◌, ◌==◌, min, max, Bool, true, false, cond, not, ◌&&◌, ◌||◌, if◌then◌else◌, List, [], ◌∷◌, length, Option, Some, None, nat_lt, refl, sym, ap, ap₂, ◌∙◌, arith, eq-eqb, ne_eqb, lt-ltb, true≢false}
 use Rattle.std.proofs.Math.Nat.{mul-le-mul_left}
 use Rattle.fancy_regex_tree.specs.Tree.{Tree, Trees, empty, any, assertion, general_newline, literal, concat, alt, group, look_around, repeat, delegate, atomic_group, conditional, verb, define_group, no_trees, more_trees}
 use Rattle.fancy_regex_tree.specs.declared.expr.Assertion.{Assertion}
@@ -12,10 +12,15 @@ use Rattle.fancy_regex_linear.specs.Re.{Re, nothing, read, test, cat}
 use Rattle.fancy_regex_linear.specs.Re as re
 use Rattle.fancy_regex_linear.specs.Meaning.{is_unbounded}
 use Rattle.fancy_regex_linear.specs.Program.{never_empty, IsSound, MayAskIn, weight, repeat_weight}
-use Rattle.fancy_regex_linear.specs.Plain.{IsPlain, ArePlain, IsRegular, AreRegular, IsOneChar, IsServed, test_of, ends_by_crlf, newline_re, last_newline, text_end_re, served, asking, looked, char_leaf, char_classes, has_no_iteration, unless, classes, re_of, row_of, branches_of}
+use Rattle.fancy_regex_linear.specs.Plain.{IsPlain, ArePlain, IsRegular, AreRegular, IsOneChar, IsServed, test_of, ends_by_crlf, newline_re, last_newline, text_end_re, served, joined, is_negated_look, is_look_behind, steps_back, looked, around, each_around, char_leaf, char_classes, has_no_iteration, unless, classes, re_of, row_of, branches_of}
 use Rattle.fancy_regex_states.specs.declared.atom.Leaf.{Leaf}
 use Rattle.fancy_regex_states.specs.declared.atom.Test.{Test}
 use Rattle.fancy_regex_linear.proofs.CarryLemmas.{Lacks}
+
+-- each of them is so
+abbrev pub AllOf : (Re → Type 0) → List Re → Type 0
+AllOf P [] = Unit {0}
+AllOf P (x ∷ xs) = P x × AllOf P xs
 
 may_served : (a : Assertion) (o : Option Test) → IsServed o → MayAskIn false (served a o)
 may_served a None p = absurd p
@@ -59,63 +64,77 @@ never_served : (a : Assertion) (o : Option Test) → never_empty (served a o) �
 never_served a None = refl
 never_served a (Some t) = refl
 
--- a look-around
-lacks_asking : (m : ℕ) (how : LookAround) (body : Re) → Lacks m body → Lacks m (asking how body)
-lacks_asking m L.LookAhead body h = h
-lacks_asking m L.LookAheadNeg body h = h
-lacks_asking m L.LookBehind body h = tt
-lacks_asking m L.LookBehindNeg body h = tt
+-- a look-around that is a test, or asks a part
+lacks_looked : (m : ℕ) (how : LookAround) (o : Option Leaf) (asked : Re) → Lacks m asked → Lacks m (looked how o asked)
+lacks_looked m how None asked h = h
+lacks_looked m how (Some leaf) asked h = tt
 
-lacks_looked : (m : ℕ) (how : LookAround) (o : Option Leaf) (body : Re) → Lacks m body → Lacks m (looked how o body)
-lacks_looked m how None body h = lacks_asking m how body h
-lacks_looked m how (Some leaf) body h = tt
+pub sound_looked : (how : LookAround) (o : Option Leaf) (asked : Re) → IsSound asked → IsSound (looked how o asked)
+sound_looked how None asked h = h
+sound_looked how (Some leaf) asked h = tt
 
-pub sound_asking : (how : LookAround) (body : Re) → IsSound body → IsSound (asking how body)
-sound_asking L.LookAhead body h = h
-sound_asking L.LookAheadNeg body h = h
-sound_asking L.LookBehind body h = tt
-sound_asking L.LookBehindNeg body h = tt
+pub never_looked : (how : LookAround) (o : Option Leaf) (asked : Re) → never_empty asked ≡ false → never_empty (looked how o asked) ≡ false
+never_looked how None asked h = h
+never_looked how (Some leaf) asked h = refl
 
-sound_looked : (how : LookAround) (o : Option Leaf) (body : Re) → IsSound body → IsSound (looked how o body)
-sound_looked how None body h = sound_asking how body h
-sound_looked how (Some leaf) body h = tt
+-- those of branches, joined
+cats_lack : (m : ℕ) (xs : List Re) → AllOf (Lacks m) xs → Lacks m (re.cats xs)
+cats_lack m [] h = tt
+cats_lack m (x ∷ xs) h = (h.0, cats_lack m xs h.1)
 
-pub never_asking : (how : LookAround) (body : Re) → never_empty (asking how body) ≡ false
-never_asking L.LookAhead body = refl
-never_asking L.LookAheadNeg body = refl
-never_asking L.LookBehind body = refl
-never_asking L.LookBehindNeg body = refl
+alts_lack : (m : ℕ) (xs : List Re) → AllOf (Lacks m) xs → Lacks m (re.alts xs)
+alts_lack m [] h = tt
+alts_lack m (x ∷ []) h = h.0
+alts_lack m (x ∷ y ∷ ys) h = (h.0, alts_lack m (y ∷ ys) h.1)
 
-never_looked : (how : LookAround) (o : Option Leaf) (body : Re) → never_empty (looked how o body) ≡ false
-never_looked how None body = never_asking how body
-never_looked how (Some leaf) body = refl
+joined_lack : (m : ℕ) (negated : Bool) (xs : List Re) → AllOf (Lacks m) xs → Lacks m (joined negated xs)
+joined_lack m true xs h = cats_lack m xs h
+joined_lack m false xs h = alts_lack m xs h
 
--- a tree of one character becomes a pattern with parts, as does the body of a look-around that does
+cats_sound : (xs : List Re) → AllOf IsSound xs → IsSound (re.cats xs)
+cats_sound [] h = tt
+cats_sound (x ∷ xs) h = (h.0, cats_sound xs h.1)
+
+alts_sound : (xs : List Re) → AllOf IsSound xs → IsSound (re.alts xs)
+alts_sound [] h = tt
+alts_sound (x ∷ []) h = h.0
+alts_sound (x ∷ y ∷ ys) h = (h.0, alts_sound (y ∷ ys) h.1)
+
+pub joined_sound : (negated : Bool) (xs : List Re) → AllOf IsSound xs → IsSound (joined negated xs)
+joined_sound true xs h = cats_sound xs h
+joined_sound false xs h = alts_sound xs h
+
+abbrev pub IsStill : Re → Type 0
+IsStill x = never_empty x ≡ false
+
+cats_still : (xs : List Re) → AllOf IsStill xs → IsStill (re.cats xs)
+cats_still [] h = refl
+cats_still (x ∷ xs) h = rw (h.0, cats_still xs h.1) refl
+
+alts_still : (xs : List Re) → AllOf IsStill xs → IsStill (re.alts xs)
+alts_still [] h = refl
+alts_still (x ∷ []) h = h.0
+alts_still (x ∷ y ∷ ys) h = rw (h.0) refl
+
+pub joined_still : (negated : Bool) (xs : List Re) → AllOf IsStill xs → IsStill (joined negated xs)
+joined_still true xs h = cats_still xs h
+joined_still false xs h = alts_still xs h
+
+-- one of two
+if_has : (P : Re → Type 0) (b : Bool) (x y : Re) → P x → P y → P (if b then x else y)
+if_has P true x y h k = h
+if_has P false x y h k = k
+
+-- a tree of one character becomes a pattern with parts
 one_char_regular : (t : Tree) → IsOneChar t → IsRegular t
 one_char_regular (any newline crlf) p = tt
 one_char_regular (literal val casei) p = tt
 one_char_regular (delegate class casei) p = tt
 one_char_regular _ p = absurd p
 
-pub body_regular : (t : Tree) (how : LookAround) → IsRegular (look_around t how) → IsRegular t
-body_regular t L.LookAhead p = p
-body_regular t L.LookAheadNeg p = p
-body_regular t L.LookBehind p = one_char_regular t p
-body_regular t L.LookBehindNeg p = one_char_regular t p
-
 -- so does a look-around for one character
 one_char_look : (t : Tree) (how : LookAround) → IsOneChar t → IsRegular (look_around t how)
-one_char_look t L.LookAhead p = one_char_regular t p
-one_char_look t L.LookAheadNeg p = one_char_regular t p
-one_char_look t L.LookBehind p = p
-one_char_look t L.LookBehindNeg p = p
-
--- what a look-around asks is the same where its body is
-pub asking_same : (t : Tree) (how : LookAround) (a b : Re) → IsRegular (look_around t how) → (IsRegular t → a ≡ b) → asking how a ≡ asking how b
-asking_same t L.LookAhead a b p h = ap (re.ask false) (h p)
-asking_same t L.LookAheadNeg a b p h = ap (re.ask true) (h p)
-asking_same t L.LookBehind a b p h = refl
-asking_same t L.LookBehindNeg a b p h = refl
+one_char_look t how p = one_char_regular t p
 
 -- a tree of one character has a test
 pub has_leaf : (unicode : Bool) (k : ℕ) (t : Tree) → IsOneChar t → char_leaf unicode k t ≡ None → ⊥
@@ -152,15 +171,16 @@ mutual
   all_regular (more_trees t ts) p = (plain_regular t p.0, all_regular ts p.1)
 
 -- a look-around for one character is a test
-module _ (unicode : Bool) (k : ℕ) (how : LookAround) (body : Re) where
-  look_light : (t : Tree) → IsOneChar t → weight (looked how (char_leaf unicode k t) body) ≤ 1
-  unfolding weight
+module _ (unicode : Bool) (groups : List Tree) (n k : ℕ) (how : LookAround) (body : Re) where
+  look_light : (t : Tree) → IsOneChar t → weight (around unicode groups n k how body t) ≤ 1
+  unfolding weight around
   look_light (any newline crlf) p = omega arith
   look_light (literal val casei) p = omega arith
   look_light (delegate class casei) p = omega arith
   look_light _ p = absurd p
 
-  look_may : (t : Tree) → IsOneChar t → MayAskIn false (looked how (char_leaf unicode k t) body)
+  look_may : (t : Tree) → IsOneChar t → MayAskIn false (around unicode groups n k how body t)
+  unfolding around
   look_may (any newline crlf) p = tt
   look_may (literal val casei) p = tt
   look_may (delegate class casei) p = tt
@@ -200,7 +220,7 @@ out_moves (suc lo) hi greedy strict x = rw (ne_eqb (suc lo) 0 (omega arith)) ref
 
 module _ (unicode : Bool) (groups : List Tree) where
   mutual
-    unfolding re_of
+    unfolding re_of around each_around
 
     -- groups before the first are not in it
     pub lacks : (m n k : ℕ) (t : Tree) → m < n → Lacks m (re_of unicode groups n k t)
@@ -212,7 +232,7 @@ module _ (unicode : Bool) (groups : List Tree) where
     lacks m n k (assertion a) h = lacks_served m a (test_of a)
     lacks m n k (concat ts) h = row_lacks m n k ts h
     lacks m n k (alt ts) h = branches_lack m n k ts h
-    lacks m n k (look_around t how) h = lacks_looked m how (char_leaf unicode k t) (re_of unicode groups n k t) (lacks m n k t h)
+    lacks m n k (look_around t how) h = around_lacks m n k how (re_of unicode groups n k t) t h (lacks m n k t h)
     lacks m n k (atomic_group t) h = lacks m n k t h
     lacks m n k (conditional c a b) h = (lacks m n k c h, (lacks m _ _ a (omega arith), lacks m _ _ b (omega arith)))
     lacks m n k (verb v) h = tt
@@ -228,6 +248,31 @@ module _ (unicode : Bool) (groups : List Tree) where
     branches_lack m n k no_trees h = tt
     branches_lack m n k (more_trees t no_trees) h = lacks m n k t h
     branches_lack m n k (more_trees t (more_trees u us)) h = (lacks m n k t h, branches_lack m _ _ (more_trees u us) (omega arith))
+
+    around_lacks : (m n k : ℕ) (how : LookAround) (body : Re) (t : Tree) → m < n → Lacks m body → Lacks m (around unicode groups n k how body t)
+    around_lacks m n k how body (alt ts) h b =
+        if_has (Lacks m) (is_look_behind how && not (size groups (alt ts)).always) _ _
+        (joined_lack m (is_negated_look how) (each_around unicode groups n k how ts) (each_lack m n k how ts h)) b
+    around_lacks m n k how body t h b = lacks_looked m how (char_leaf unicode k t) (re.ask (is_negated_look how) (steps_back groups how t) body) b
+
+    each_lack : (m n k : ℕ) (how : LookAround) (ts : Trees) → m < n → AllOf (Lacks m) (each_around unicode groups n k how ts)
+    each_lack m n k how no_trees h = tt
+    each_lack m n k how (more_trees t ts) h = (around_lacks m n k how _ t h (lacks m n k t h), each_lack m _ _ how ts (omega arith))
+
+-- a look-around is never sure to move
+module _ (unicode : Bool) (groups : List Tree) where
+  mutual
+    unfolding around each_around
+
+    pub around_still : (n k : ℕ) (how : LookAround) (body : Re) (t : Tree) → never_empty (around unicode groups n k how body t) ≡ false
+    around_still n k how body (alt ts) =
+        if_has IsStill (is_look_behind how && not (size groups (alt ts)).always) _ _
+        (joined_still (is_negated_look how) (each_around unicode groups n k how ts) (each_still n k how ts)) refl
+    around_still n k how body t = never_looked how (char_leaf unicode k t) (re.ask (is_negated_look how) (steps_back groups how t) body) refl
+
+    pub each_still : (n k : ℕ) (how : LookAround) (ts : Trees) → AllOf IsStill (each_around unicode groups n k how ts)
+    each_still n k how no_trees = tt
+    each_still n k how (more_trees t ts) = (around_still n k how _ t, each_still _ _ how ts)
 
 -- when a sum, a least and a product that stop at a bound are zero
 above_zero : (n : ℕ) → (suc n == 0) ≡ false
@@ -275,7 +320,7 @@ module _ (unicode : Bool) (groups : List Tree) (call : ℕ → Size) where
     empties n k (concat ts) p = row_empties n k ts p
     empties n k (alt ts) p = branch_empties n k ts p.0 p.1
     empties n k (group t) p = empties (n + 1) k t p
-    empties n k (look_around t how) p = sym (ap not (never_looked how (char_leaf unicode k t) (re_of unicode groups n k t)))
+    empties n k (look_around t how) p = sym (ap not (around_still unicode groups n k how (re_of unicode groups n k t) t))
     empties n k (atomic_group t) p = empties n k t p
     empties n k (conditional c a b) p =
         least_zero (min unbounded ((size_with call c).least + (size_with call a).least)) (size_with call b).least
@@ -327,7 +372,7 @@ module _ (unicode : Bool) (groups : List Tree) where
   flag_is n k t p = ap not (empties_through (length groups) n k t p) ∙ not_twice _
 
   mutual
-    unfolding re_of
+    unfolding re_of around each_around
 
     pub regular_sound : (n k : ℕ) (t : Tree) → IsRegular t → IsSound (re_of unicode groups n k t)
     regular_sound n k empty p = tt
@@ -339,7 +384,7 @@ module _ (unicode : Bool) (groups : List Tree) where
     regular_sound n k (concat ts) p = row_sound n k ts p
     regular_sound n k (alt ts) p = branches_sound n k ts p.1
     regular_sound n k (group t) p = regular_sound (n + 1) k t p
-    regular_sound n k (look_around t how) p = sound_looked how (char_leaf unicode k t) (re_of unicode groups n k t) (regular_sound n k t (body_regular t how p))
+    regular_sound n k (look_around t how) p = around_sound n k how (re_of unicode groups n k t) t p (regular_sound n k t p)
     regular_sound n k (atomic_group t) p = regular_sound n k t p
     regular_sound n k (conditional c a b) p = (regular_sound n k c p.0, (regular_sound _ _ a p.1.0, regular_sound _ _ b p.1.1))
     regular_sound n k (define_group t) p = tt
@@ -355,6 +400,16 @@ module _ (unicode : Bool) (groups : List Tree) where
     branches_sound n k no_trees p = tt
     branches_sound n k (more_trees t no_trees) p = regular_sound n k t p.0
     branches_sound n k (more_trees t (more_trees u us)) p = (regular_sound n k t p.0, branches_sound _ _ (more_trees u us) p.1)
+
+    around_sound : (n k : ℕ) (how : LookAround) (body : Re) (t : Tree) → IsRegular t → IsSound body → IsSound (around unicode groups n k how body t)
+    around_sound n k how body (alt ts) p b =
+        if_has IsSound (is_look_behind how && not (size groups (alt ts)).always) _ _
+        (joined_sound (is_negated_look how) (each_around unicode groups n k how ts) (each_sound n k how ts p.1)) b
+    around_sound n k how body t p b = sound_looked how (char_leaf unicode k t) (re.ask (is_negated_look how) (steps_back groups how t) body) b
+
+    each_sound : (n k : ℕ) (how : LookAround) (ts : Trees) → AreRegular ts → AllOf IsSound (each_around unicode groups n k how ts)
+    each_sound n k how no_trees p = tt
+    each_sound n k how (more_trees t ts) p = (around_sound n k how _ t p.0 (regular_sound n k t p.0), each_sound _ _ how ts p.1)
 
   pub sound : (n k : ℕ) (t : Tree) → IsPlain t → IsSound (re_of unicode groups n k t)
   sound n k t p = regular_sound n k t (plain_regular t p)
@@ -372,7 +427,7 @@ module _ (unicode : Bool) (groups : List Tree) where
     plain_may n k (concat ts) p = row_may n k ts p
     plain_may n k (alt ts) p = branches_may n k ts p.1
     plain_may n k (group t) p = plain_may (n + 1) k t p
-    plain_may n k (look_around t how) p = look_may unicode k how (re_of unicode groups n k t) t p
+    plain_may n k (look_around t how) p = look_may unicode groups n k how (re_of unicode groups n k t) t p
     plain_may n k (repeat t lo hi greedy) p = out_may (has_no_iteration lo hi) _ (plain_may n k t p)
     plain_may n k _ p = absurd p
 
@@ -407,7 +462,7 @@ module _ (unicode : Bool) (groups : List Tree) where
     light n k (concat ts) p = omega (arith, row_light n k ts p)
     light n k (alt ts) p = branches_light n k ts p.0 p.1
     light n k (group t) p = omega (arith, light (n + 1) k t p)
-    light n k (look_around t how) p = omega (arith, look_light unicode k how (re_of unicode groups n k t) t p)
+    light n k (look_around t how) p = omega (arith, look_light unicode groups n k how (re_of unicode groups n k t) t p)
     light n k (repeat t lo hi greedy) p =
         out_light (has_no_iteration lo hi) _ _ (lighter (is_unbounded hi) (may_be_empty groups t) lo hi _ _ (light n k t p))
     light n k _ p = absurd p

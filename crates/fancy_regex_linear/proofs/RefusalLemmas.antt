@@ -20,7 +20,7 @@ use Rattle.fancy_regex_states.specs.declared.rules.Rules.{Rules}
 use Rattle.fancy_regex_states.specs.declared.state.State.{State}
 use Rattle.fancy_regex_states.specs.declared.state.State.TheVariants.{Split, Enter, Leave, Ask, Atomic, Match}
 use Rattle.fancy_regex_states.specs.declared.state.State.TheVariants as S
-use Rattle.fancy_regex_states.specs.Attempts.{View, reads, Continuation, Trace, write, better_trace, asked_answer, passed_answer, passed_depth, pick, Shows, NamesBelow, visit, AllAgree}
+use Rattle.fancy_regex_states.specs.Attempts.{View, reads, Continuation, Trace, write, better_trace, asked_answer, passed_answer, passed_depth, resume, Shows, NamesBelow, visit, AllAgree}
 use Rattle.fancy_regex_linear.specs.Search.{Explains, HasMarks, RefusesAscii}
 use Rattle.regex_hir.proofs.Utf8Lemmas.{char_at_cases}
 use Rattle.fancy_regex_class.proofs.AdjacentCharLemmas.{boundary_past_ascii}
@@ -38,6 +38,7 @@ CannotRead-prop unicode matchers after (Enter g next) = Unit-prop
 CannotRead-prop unicode matchers after (Leave g next) = Unit-prop
 CannotRead-prop unicode matchers after (Ask part negated next) = Unit-prop
 CannotRead-prop unicode matchers after (Atomic part same moved) = Unit-prop
+CannotRead-prop unicode matchers after (S.Back next) = ⊥_prop
 CannotRead-prop unicode matchers after Match = ⊥_prop
 
 -- what the states' table says of a character holds
@@ -85,6 +86,7 @@ module _ (view : View) (stop : ℕ) (states : List State) (go : ℕ → Continua
   -- what a state that reads comes to, or one that is final
   abbrev pub ReadFails : ℕ → State → Type 0
   ReadFails q (S.Read leaf next) = (go q at).answer ≡ None
+  ReadFails q (S.Back next) = ⊥
   ReadFails q Match = ⊥
   ReadFails q _ = Unit {0}
 
@@ -122,9 +124,10 @@ module _ (view : View) (stop : ℕ) (states : List State) (go : ℕ → Continua
       let found : (go q at).answer ≡ asked_answer negated (go part at).answer (go next at).answer = ap (λ r. r.answer) e in
       found ∙ ap (asked_answer negated (go part at).answer) (later next refl names.1 (omega arith)) ∙ none_asked negated (go part at).answer
   one_fails May or_not n q (Atomic part same moved) names e d fails later =
-      let deep : (go q at).depth ≡ (go part at).depth + passed_depth (go part at).answer (pick at (go same) (go moved)) + 1 = ap (λ r. r.depth) e in
-      let found : (go q at).answer ≡ passed_answer (go part at).answer (pick at (go same) (go moved)) = ap (λ r. r.answer) e in
-      found ∙ ap (λ a. passed_answer a (pick at (go same) (go moved))) (later part refl names.0 (omega arith))
+      let deep : (go q at).depth ≡ (go part at).depth + passed_depth (go part at).answer (resume at (go same) (go moved)) + 1 = ap (λ r. r.depth) e in
+      let found : (go q at).answer ≡ passed_answer (go part at).answer (resume at (go same) (go moved)) = ap (λ r. r.answer) e in
+      found ∙ ap (λ a. passed_answer a (resume at (go same) (go moved))) (later part refl names.0 (omega arith))
+  one_fails May or_not n q (S.Back next) names e d fails later = absurd fails
   one_fails May or_not n q Match names e d fails later = absurd fails
 
   leads_any : (state : State) (p : ℕ) → LeadsBy MayHold state p → Leads state p
@@ -135,6 +138,7 @@ module _ (view : View) (stop : ℕ) (states : List State) (go : ℕ → Continua
   leads_any (Leave g next) p leads = leads
   leads_any (Ask part negated next) p leads = leads
   leads_any (Atomic part same moved) p leads = leads
+  leads_any (S.Back next) p leads = leads
   leads_any Match p leads = leads
 
   reached_fails : AllAgree view stop states go → at ≤ stop → ((q : ℕ) → q < length states → Reaches states entry q → ReadFails q (state_at states q))
@@ -160,6 +164,7 @@ module _ (view : View) (stop : ℕ) (states : List State) (go : ℕ → Continua
   refused_reader q (Leave g next) e cannot = tt
   refused_reader q (Ask part negated next) e cannot = tt
   refused_reader q (Atomic part same moved) e cannot = tt
+  refused_reader q (S.Back next) e cannot = cannot
   refused_reader q Match e cannot = cannot
 
   -- no match begins at a place that is refused
@@ -208,6 +213,7 @@ module _ (view : View) (stop : ℕ) (states : List State) (go : ℕ → Continua
   leading_on_fails q (Leave g next) leads_on = tt
   leading_on_fails q (Ask part negated next) leads_on = tt
   leading_on_fails q (Atomic part same moved) leads_on = tt
+  leading_on_fails q (S.Back next) leads_on = absurd leads_on
   leading_on_fails q Match leads_on = absurd leads_on
 
   leads_after : (state : State) (p : ℕ) → LeadsBy view stop states go matchers rules entry at (Some c) after refl shows May state p
@@ -219,6 +225,7 @@ module _ (view : View) (stop : ℕ) (states : List State) (go : ℕ → Continua
   leads_after (Leave g next) p leads = leads
   leads_after (Ask part negated next) p leads = leads
   leads_after (Atomic part same moved) p leads = leads
+  leads_after (S.Back next) p leads = leads
   leads_after Match p leads = leads
 
   all_fail_after : AllAgree view stop states go → at ≤ stop → CannotBeginAfter rules.unicode matchers states entry c
@@ -252,6 +259,7 @@ followed_reader view stop states go matchers rules entry at before after not_fir
 followed_reader view stop states go matchers rules entry at before after not_first shows two second last further agree inside q (Leave g next) names e cannot = tt
 followed_reader view stop states go matchers rules entry at before after not_first shows two second last further agree inside q (Ask part negated next) names e cannot = tt
 followed_reader view stop states go matchers rules entry at before after not_first shows two second last further agree inside q (Atomic part same moved) names e cannot = tt
+followed_reader view stop states go matchers rules entry at before after not_first shows two second last further agree inside q (S.Back next) names e cannot = cannot
 followed_reader view stop states go matchers rules entry at before after not_first shows two second last further agree inside q Match names e cannot = cannot
 
 CannotBegin-prop : (unicode : Bool) (matchers : List CharClassMatcher) (states : List State) (entry : ℕ) (after : Option ℕ) → IsProp (CannotBegin unicode matchers states entry after)
@@ -265,6 +273,7 @@ CannotGoOn-prop unicode matchers states after (Enter g next) = Unit-prop
 CannotGoOn-prop unicode matchers states after (Leave g next) = Unit-prop
 CannotGoOn-prop unicode matchers states after (Ask part negated next) = Unit-prop
 CannotGoOn-prop unicode matchers states after (Atomic part same moved) = Unit-prop
+CannotGoOn-prop unicode matchers states after (S.Back next) = ⊥_prop
 CannotGoOn-prop unicode matchers states after Match = ⊥_prop
 
 -- what the states' table says of a second character holds
@@ -288,6 +297,7 @@ OnlyLeadsOn-prop (Enter g next) = Unit-prop
 OnlyLeadsOn-prop (Leave g next) = Unit-prop
 OnlyLeadsOn-prop (Ask part negated next) = Unit-prop
 OnlyLeadsOn-prop (Atomic part same moved) = Unit-prop
+OnlyLeadsOn-prop (S.Back next) = ⊥_prop
 OnlyLeadsOn-prop Match = ⊥_prop
 
 -- what the marks of characters before starts say holds, and what is said of those that are not ASCII

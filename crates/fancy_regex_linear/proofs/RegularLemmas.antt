@@ -1,7 +1,7 @@
--- A regular tree and its pattern have the same first way, whichever places are wanted. A look-ahead keeps each way of its body,
+-- A regular tree and its pattern have the same first way, whichever places are wanted. A look-around keeps each way of its body,
 -- and its pattern the first, so that their other ways differ.
 use Rattle.std.proofs.Common.{◌≡◌, ◌≢◌, ℕ, zero, suc, ◌+◌, ◌-◌, ◌<◌, ◌≤◌, ◌==◌, Bool, true, false, cond, not, ◌&&◌, ◌||◌, ◌*◌, List, [], ◌∷◌, ◌++◌, map, length, slice_index, Option, Some, None, if◌then◌else◌, nat_le, set, refl, sym, subst, ap, ap₂, ◌∙◌, inl, inr, ◌⊎◌, arith, lt-ltb, le-ltb, le-leb, leb-true, eq-eqb, ne_eqb, append-nil}
-use Rattle.std.specs.Prelude.{option_map, is_some}
+use Rattle.std.specs.Prelude.{option_map, is_some, IfSome}
 use Rattle.std.specs.List.{flat_map, find, list_any}
 use Rattle.std.specs.Option.{option_or, option_and_then}
 use Rattle.std.proofs.lemmas.Bool.{and_parts, cases_lt}
@@ -13,21 +13,23 @@ use Rattle.fancy_regex_tree.specs.declared.expr.Assertion.{Assertion}
 use Rattle.fancy_regex_tree.specs.declared.expr.Assertion.TheVariants.{EndTextIgnoreTrailingNewlines}
 use Rattle.fancy_regex_tree.specs.declared.expr.LookAround.{LookAround}
 use Rattle.fancy_regex_tree.specs.declared.expr.LookAround.TheVariants.{LookAhead, LookAheadNeg, LookBehind, LookBehindNeg}
-use Rattle.regex_hir.specs.Text.{char_at}
+use Rattle.regex_hir.specs.Text.{char_at, char_before}
+use Rattle.std.specs.Char.{len_utf8}
+use Rattle.fancy_regex_meaning.specs.Positions.{position_before}
 use Rattle.fancy_regex_class.specs.Classes.{folded}
 use Rattle.fancy_regex_class.specs.RunInputs.{group_slots}
 use Rattle.fancy_regex_meaning.specs.Groups.{group_count}
-use Rattle.fancy_regex_meaning.specs.Sizes.{bound_of}
-use Rattle.fancy_regex_meaning.specs.Ways.{MatchState, Moves, Setting, Meaning, meaning, meanings, all_of, any_of, prefer, due, up_to, loop, keep_only_pairs, first_only, is_none_of, match_empty_if}
+use Rattle.fancy_regex_meaning.specs.Sizes.{size, bound_of}
+use Rattle.fancy_regex_meaning.specs.Ways.{MatchState, Moves, Setting, Meaning, meaning, meanings, all_of, any_of, prefer, due, up_to, loop, keep_only_pairs, first_only, is_none_of, match_empty_if, for_some, with_position}
 use Rattle.fancy_regex_meaning.specs.Ways as ways
 use Rattle.fancy_regex_states.specs.Attempts.{View, reads}
 use Rattle.fancy_regex_states.specs.declared.atom.Leaf.TheVariants.{Any}
 use Rattle.fancy_regex_states.specs.declared.atom.Test.{Test}
 use Rattle.fancy_regex_linear.specs.Re.{Re, nothing, read, test, cat}
 use Rattle.fancy_regex_linear.specs.Re as re
-use Rattle.fancy_regex_linear.specs.Plain.{IsRegular, AreRegular, IsOneChar, IsServed, test_of, ends_by_crlf, text_end_re, served, looked, asking, char_leaf, has_no_iteration, unless, classes, row_classes, re_of, row_of, branches_of}
+use Rattle.fancy_regex_linear.specs.Plain.{IsRegular, AreRegular, IsOneChar, IsServed, test_of, ends_by_crlf, text_end_re, served, joined, is_negated_look, is_look_behind, steps_back, looked, around, each_around, char_leaf, has_no_iteration, unless, classes, row_classes, re_of, row_of, branches_of}
 use Rattle.fancy_regex_linear.specs.SettingView.{view_of}
-use Rattle.fancy_regex_linear.specs.Meaning.{Spot, each, in_order, after_iteration, loop_ways, times_ways, upto_ways, tail_ways, is_unbounded, asked_ways, first_way}
+use Rattle.fancy_regex_linear.specs.Meaning.{Spot, each, in_order, after_iteration, loop_ways, times_ways, upto_ways, tail_ways, is_unbounded, asked_ways, at_bytes_before, place_before, ways_at, first_way}
 use Rattle.fancy_regex_linear.specs.Meaning as plain
 use Rattle.fancy_regex_linear.proofs.BoundLemmas.{AllOf, Between, Ends, ways_end}
 use Rattle.fancy_regex_linear.proofs.EndLemmas.{ends, GoesByPlace, after_alike, loop_alike, times_alike, upto_alike, tail_alike, ways_alike}
@@ -284,19 +286,38 @@ first_alone [] (u ∷ us) e wanted = absurd (none-some u e)
 first_alone (v ∷ vs) [] e wanted = absurd (none-some (spot_of v) (sym e))
 first_alone (v ∷ vs) (u ∷ us) e wanted = ap (λ (x : Spot). first_at wanted (x ∷ [])) (same_Some (spot_of v) u e)
 
--- a look-ahead, and an atomic group, where the body has the first ways of this pattern
+-- from a place that is there
+module _ (view : View) (len : ℕ) (from : Moves) (body : Re) (same : HasFirsts len from (plain.ways view len body)) (w : MatchState) where
+  -- the ways from this place, if there is one
+  abbrev ways_from : Option ℕ → List MatchState
+  ways_from o = for_some (λ p. from (with_position w p)) o
+
+  first_from : (o : Option ℕ) → IfSome o (λ p. p ≤ len)
+      → first_at anywhere (map spot_of (ways_from o)) ≡ first_at anywhere (ways_at (plain.ways view len body) (spot_of w) o)
+  first_from None le = refl
+  first_from (Some p) le = same (with_position w p) le anywhere
+
+  kept_from : (o : Option ℕ) → IfSome o (λ p. p ≤ len)
+      → SameFirst (map spot_of (keep_only_pairs w (ways_from o))) (asked_ways false (spot_of w) (ways_at (plain.ways view len body) (spot_of w) o))
+  kept_from o le = first_kept w (ways_from o) (ways_at (plain.ways view len body) (spot_of w) o) (first_from o le)
+
+  refused_from : (o : Option ℕ) → IfSome o (λ p. p ≤ len)
+      → SameFirst (map spot_of (match_empty_if (is_none_of (ways_from o)) w)) (asked_ways true (spot_of w) (ways_at (plain.ways view len body) (spot_of w) o))
+  refused_from o le = first_refused w (ways_from o) (ways_at (plain.ways view len body) (spot_of w) o) (first_from o le)
+
+-- an atomic group, where the body has the first ways of this pattern
 module _ (view : View) (len : ℕ) (m : Meaning) (body : Re) (same : HasFirsts len m.from (plain.ways view len body)) where
-  ahead_firsts : HasFirsts len (ways.look LookAhead m) (plain.ways view len (asking LookAhead body))
-  unfolding plain.ways
-  ahead_firsts w p = first_kept w (m.from w) (plain.ways view len body (spot_of w)) (same w p anywhere)
-
-  ahead_neg_firsts : HasFirsts len (ways.look LookAheadNeg m) (plain.ways view len (asking LookAheadNeg body))
-  unfolding plain.ways
-  ahead_neg_firsts w p = first_refused w (m.from w) (plain.ways view len body (spot_of w)) (same w p anywhere)
-
   atomic_firsts : HasFirsts len (λ w. first_only (m.from w)) (plain.ways view len (re.atomic body))
   unfolding plain.ways
   atomic_firsts w p = first_alone (m.from w) (plain.ways view len body (spot_of w)) (same w p anywhere)
+
+-- of branches none has a way where neither the first nor another has one
+none_of_both : (us vs : List MatchState) (w : MatchState) (a : List Spot) (b : Spot → List Spot) → GoesByPlace b
+    → SameFirst (map spot_of (match_empty_if (is_none_of us) w)) a → SameFirst (map spot_of (match_empty_if (is_none_of vs) w)) (b (spot_of w))
+    → SameFirst (map spot_of (match_empty_if (is_none_of (us ++ vs)) w)) (each b a)
+none_of_both [] vs w a b by_place first rest wanted =
+    rest wanted ∙ ap (first_at wanted) (sym (append-nil (b (spot_of w)))) ∙ same_each b by_place (spot_of w ∷ []) a first wanted
+none_of_both (u ∷ us) vs w a b by_place first rest wanted = same_each b by_place [] a first wanted
 
 -- a conditional, where its three trees have the first ways of these patterns
 module _ (view : View) (len : ℕ) (f g h : Moves) (c a b : Re) (asks : HasFirsts len f (plain.ways view len c))
@@ -354,33 +375,114 @@ module _ (s : Setting) (groups : List Tree) (unicode : Bool) (call : ℕ → Mov
       λ wanted. ap (first_at wanted) (look_same s groups unicode call cs false same_fold n k (delegate class casei) how p h body w q)
   test_firsts n k _ how p h body w q = absurd p
 
-  -- a look-ahead is such a test, or asks a part
-  look_firsts : (n k : ℕ) (t : Tree) (how : LookAround) → StandAt s groups unicode call cs false same_fold k (classes t) → (body : Re)
-      → HasFirsts len (ways.look how (meaning s groups call n t)) (plain.ways view len (asking how body))
-      → HasFirsts len (ways.look how (meaning s groups call n t)) (plain.ways view len (looked how (char_leaf unicode k t) body))
-  look_firsts n k t how h body part =
+  -- a look-around is such a test, or asks a part
+  look_firsts : (n k : ℕ) (t : Tree) (how : LookAround) → StandAt s groups unicode call cs false same_fold k (classes t) → (asked : Re)
+      → HasFirsts len (ways.look how (meaning s groups call n t)) (plain.ways view len asked)
+      → HasFirsts len (ways.look how (meaning s groups call n t)) (plain.ways view len (looked how (char_leaf unicode k t) asked))
+  look_firsts n k t how h asked part =
       elim (one_char_cases unicode k t) [
-        | inl one ↦ test_firsts n k t how one h body
+        | inl one ↦ test_firsts n k t how one h asked
         | inr more ↦ rw more part
       ]
+
+  -- so many characters before
+  before_same : (n i : ℕ) (o : Option ℕ) → ((j : ℕ) → place_before view n j ≡ position_before s.text n j)
+      → at_bytes_before (place_before view n) i (option_map len_utf8 o) ≡ option_and_then (λ c. position_before s.text n (i - len_utf8 c)) o
+  before_same n i None same = refl
+  before_same n i (Some c) same = same (i - len_utf8 c)
+
+  place_same : (n i : ℕ) → place_before view n i ≡ position_before s.text n i
+  unfolding place_before
+  place_same zero i = refl
+  place_same (suc n) i = before_same n i (char_before s.text i) (place_same n)
+
+  before_inside : (n i : ℕ) (o : Option ℕ) → i ≤ len → ((j : ℕ) → j ≤ len → IfSome (position_before s.text n j) (λ p. p ≤ len))
+      → IfSome (option_and_then (λ c. position_before s.text n (i - len_utf8 c)) o) (λ p. p ≤ len)
+  before_inside n i None le inside = tt
+  before_inside n i (Some c) le inside = inside (i - len_utf8 c) (omega (arith, le))
+
+  place_inside : (n i : ℕ) → i ≤ len → IfSome (position_before s.text n i) (λ p. p ≤ len)
+  place_inside zero i le = le
+  place_inside (suc n) i le = before_inside n i (char_before s.text i) le (place_inside n)
+
+  -- a look-around that asks a part, of a tree that steps back over so many characters in a look-behind
+  asks_firsts : (m : Meaning) (how : LookAround) (t : Tree) (body : Re) → HasFirsts len m.from (plain.ways view len body)
+      → ((w : MatchState) → m.behind w ≡ for_some (λ p. m.from (with_position w p)) (position_before s.text (size groups t).least w.position))
+      → HasFirsts len (ways.look how m) (plain.ways view len (re.ask (is_negated_look how) (steps_back groups how t) body))
+  unfolding plain.ways place_before
+  asks_firsts m LookAhead t body same node w q = first_kept w (m.from w) (plain.ways view len body (spot_of w)) (same w q anywhere)
+  asks_firsts m LookAheadNeg t body same node w q = first_refused w (m.from w) (plain.ways view len body (spot_of w)) (same w q anywhere)
+  asks_firsts m LookBehind t body same node w q =
+      rw (node w, place_same (size groups t).least w.position)
+      (kept_from view len m.from body same w (position_before s.text (size groups t).least w.position) (place_inside (size groups t).least w.position q))
+  asks_firsts m LookBehindNeg t body same node w q =
+      rw (node w, place_same (size groups t).least w.position)
+      (refused_from view len m.from body same w (position_before s.text (size groups t).least w.position) (place_inside (size groups t).least w.position q))
+
+  -- in a look-behind a tree other than an alternation begins its least size before the place
+  abbrev StepsBack : ℕ → Tree → Type 0
+  StepsBack n (alt ts) = Unit {0}
+  StepsBack n t =
+      (w : MatchState) → (meaning s groups call n t).behind w
+      ≡ for_some (λ p. (meaning s groups call n t).from (with_position w p)) (position_before s.text (size groups t).least w.position)
+
+  node_steps : (n : ℕ) (t : Tree) → IsRegular t → StepsBack n t
+  unfolding meaning
+  node_steps n (alt ts) p = tt
+  node_steps n empty p = λ w. refl
+  node_steps n (any newline crlf) p = λ w. refl
+  node_steps n (literal val casei) p = λ w. refl
+  node_steps n (delegate class casei) p = λ w. refl
+  node_steps n (general_newline wide) p = λ w. refl
+  node_steps n (assertion a) p = λ w. refl
+  node_steps n (concat ts) p = λ w. refl
+  node_steps n (group t) p = λ w. refl
+  node_steps n (look_around t how) p = λ w. refl
+  node_steps n (atomic_group t) p = λ w. refl
+  node_steps n (conditional c a b) p = λ w. refl
+  node_steps n (define_group t) p = λ w. refl
+  node_steps n (verb v) p = λ w. refl
+  node_steps n (repeat t lo hi greedy) p = λ w. refl
+  node_steps n _ p = absurd p
 
   -- an assertion: a test, or `\Z`
   text_end_firsts : (a : Assertion) → (IsServed (test_of a) → ⊥)
       → HasFirsts len (λ w. match_empty_if (ways.holds s a w.position) w) (plain.ways view len (text_end_re (ends_by_crlf a)))
-  unfolding plain.ways reads
+  unfolding plain.ways reads place_before
   text_end_firsts (EndTextIgnoreTrailingNewlines crlf) p w q = λ wanted. ap (first_at wanted) (text_end_same s cs crlf w q)
   text_end_firsts _ p w q = absurd (p tt)
 
   assertion_firsts : (o : Option Test) (a : Assertion) → test_of a ≡ o
       → HasFirsts len (λ w. match_empty_if (ways.holds s a w.position) w) (plain.ways view len (served a o))
-  unfolding plain.ways reads
+  unfolding plain.ways reads place_before
   assertion_firsts None a e w q = text_end_firsts a (subst IsServed e) w q
   assertion_firsts (Some check) a e w q =
       λ wanted. ap (first_at wanted) (subst (λ (o : Option Test). map spot_of (match_empty_if (ways.holds s a w.position) w) ≡ plain.ways view len (served a o) (spot_of w)) e
       (assertion_same s groups unicode call cs false same_fold a (subst IsServed (sym e) tt) w q))
 
+  -- branches that are equally long, or a look-ahead: they are one part; else each is looked for by itself
+  branch_looks : (behind : Bool) (n k : ℕ) (how : LookAround) (ts : Trees) (always : Bool) → is_look_behind how ≡ behind → (size groups (alt ts)).always ≡ always
+      → HasFirsts len (any_of (meanings s groups call n ts)).from (plain.ways view len (branches_of unicode groups n k ts))
+      → ((w : MatchState) → w.position ≤ len → SameFirst (map spot_of (keep_only_pairs w ((any_of (meanings s groups call n ts)).behind w)))
+      (plain.ways view len (re.alts (each_around unicode groups n k LookBehind ts)) (spot_of w)))
+      → ((w : MatchState) → w.position ≤ len → SameFirst (map spot_of (match_empty_if (is_none_of ((any_of (meanings s groups call n ts)).behind w)) w))
+      (plain.ways view len (re.cats (each_around unicode groups n k LookBehindNeg ts)) (spot_of w)))
+      → HasFirsts len (ways.look how (meaning s groups call n (alt ts))) (plain.ways view len
+      (if behind && not always then joined (is_negated_look how) (each_around unicode groups n k how ts)
+      else re.ask (is_negated_look how) (steps_back groups how (alt ts)) (branches_of unicode groups n k ts)))
+  unfolding meaning re_of classes plain.ways place_before
+  branch_looks true n k LookBehind ts false e f same kept refused w q = rw f (kept w q)
+  branch_looks true n k LookBehindNeg ts false e f same kept refused w q = rw f (refused w q)
+  branch_looks true n k how ts true e f same kept refused w q =
+      asks_firsts (meaning s groups call n (alt ts)) how (alt ts) (branches_of unicode groups n k ts) same (λ v. rw f refl) w q
+  branch_looks false n k LookAhead ts always e f same kept refused w q =
+      first_kept w ((any_of (meanings s groups call n ts)).from w) (plain.ways view len (branches_of unicode groups n k ts) (spot_of w)) (same w q anywhere)
+  branch_looks false n k LookAheadNeg ts always e f same kept refused w q =
+      first_refused w ((any_of (meanings s groups call n ts)).from w) (plain.ways view len (branches_of unicode groups n k ts) (spot_of w)) (same w q anywhere)
+  branch_looks _ n k how ts always e f same kept refused w q = cc
+
   mutual
-    unfolding meaning re_of classes plain.ways reads
+    unfolding meaning re_of around each_around classes plain.ways reads
 
     -- a regular tree has the first ways of its pattern
     pub tree_firsts : (n k : ℕ) (t : Tree) → IsRegular t → StandAt s groups unicode call cs false same_fold k (classes t)
@@ -398,12 +500,7 @@ module _ (s : Setting) (groups : List Tree) (unicode : Bool) (call : ℕ → Mov
     tree_firsts n k (group t) p h w q =
         group_firsts view len n (meaning s groups call (n + 1) t).from (re_of unicode groups (n + 1) k t) (lacks unicode groups n (n + 1) k t (omega arith))
         (tree_firsts (n + 1) k t p h) w q
-    tree_firsts n k (look_around t LookAhead) p h w q =
-        look_firsts n k t LookAhead h (re_of unicode groups n k t) (ahead_firsts view len (meaning s groups call n t) (re_of unicode groups n k t) (tree_firsts n k t p h)) w q
-    tree_firsts n k (look_around t LookAheadNeg) p h w q =
-        look_firsts n k t LookAheadNeg h (re_of unicode groups n k t) (ahead_neg_firsts view len (meaning s groups call n t) (re_of unicode groups n k t) (tree_firsts n k t p h)) w q
-    tree_firsts n k (look_around t LookBehind) p h w q = test_firsts n k t LookBehind p h (re_of unicode groups n k t) w q
-    tree_firsts n k (look_around t LookBehindNeg) p h w q = test_firsts n k t LookBehindNeg p h (re_of unicode groups n k t) w q
+    tree_firsts n k (look_around t how) p h w q = around_firsts n k how t p h (tree_firsts n k t p h) w q
     tree_firsts n k (atomic_group t) p h w q = atomic_firsts view len (meaning s groups call n t) (re_of unicode groups n k t) (tree_firsts n k t p h) w q
     tree_firsts n k (repeat t lo hi greedy) p h w q =
         out_firsts s lo hi greedy (meaning s groups call n t).from view _ (has_no_iteration lo hi) (no_iterations lo hi)
@@ -449,3 +546,51 @@ module _ (s : Setting) (groups : List Tree) (unicode : Bool) (call : ℕ → Mov
         (tree_firsts n k t p.0 (stand_left s groups unicode call cs false same_fold k (classes t) (row_classes (more_trees u us)) h) w q)
         (branches_firsts (n + group_count t) (k + length (classes t)) (more_trees u us) (λ e. cc) p.1 (stand_right s groups unicode call cs false same_fold k (classes t) (row_classes (more_trees u us)) h) w q)
         wanted
+
+    -- so has a look-around over it
+    around_firsts : (n k : ℕ) (how : LookAround) (t : Tree) → IsRegular t → StandAt s groups unicode call cs false same_fold k (classes t)
+        → HasFirsts len (meaning s groups call n t).from (plain.ways view len (re_of unicode groups n k t))
+        → HasFirsts len (ways.look how (meaning s groups call n t)) (plain.ways view len (around unicode groups n k how (re_of unicode groups n k t) t))
+    around_firsts n k how (alt ts) p h same w q =
+        branch_looks (is_look_behind how) n k how ts ((size groups (alt ts)).always) refl refl same
+        (λ v r. each_kept n k ts p.0 p.1 h v r) (λ v r. each_refused n k ts p.1 h v r) w q
+    around_firsts n k how t p h same w q =
+        look_firsts n k t how h (re.ask (is_negated_look how) (steps_back groups how t) (re_of unicode groups n k t))
+        (asks_firsts (meaning s groups call n t) how t (re_of unicode groups n k t) same (node_steps n t p)) w q
+
+    -- one of these branches, each from its own place
+    each_kept : (n k : ℕ) (ts : Trees) → (ts ≢ no_trees) → AreRegular ts → StandAt s groups unicode call cs false same_fold k (row_classes ts) → (w : MatchState) → w.position ≤ len
+        → SameFirst (map spot_of (keep_only_pairs w ((any_of (meanings s groups call n ts)).behind w)))
+        (plain.ways view len (re.alts (each_around unicode groups n k LookBehind ts)) (spot_of w))
+    each_kept n k no_trees some p h w q = absurd (some refl)
+    each_kept n k (more_trees t no_trees) some p h w q =
+        λ wanted. ap (λ vs. first_at wanted (map spot_of (keep_only_pairs w vs))) (append-nil ((meaning s groups call n t).behind w))
+        ∙ around_firsts n k LookBehind t p.0 (stand_left s groups unicode call cs false same_fold k (classes t) (row_classes no_trees) h)
+        (tree_firsts n k t p.0 (stand_left s groups unicode call cs false same_fold k (classes t) (row_classes no_trees) h)) w q wanted
+    each_kept n k (more_trees t (more_trees u us)) some p h w q =
+        let here = (meaning s groups call n t).behind w in
+        let rest = (any_of (meanings s groups call (n + group_count t) (more_trees u us))).behind w in
+        λ wanted. ap (λ vs. first_at wanted (map spot_of vs)) (map-append (λ (v : MatchState). record w { pairs = v.pairs }) here rest)
+        ∙ ap (first_at wanted) (map-append spot_of (keep_only_pairs w here) (keep_only_pairs w rest))
+        ∙ first_append (map spot_of (keep_only_pairs w here)) (map spot_of (keep_only_pairs w rest))
+        (plain.ways view len (around unicode groups n k LookBehind (re_of unicode groups n k t) t) (spot_of w))
+        (plain.ways view len (re.alts (each_around unicode groups (n + group_count t) (k + length (classes t)) LookBehind (more_trees u us))) (spot_of w))
+        (around_firsts n k LookBehind t p.0 (stand_left s groups unicode call cs false same_fold k (classes t) (row_classes (more_trees u us)) h)
+        (tree_firsts n k t p.0 (stand_left s groups unicode call cs false same_fold k (classes t) (row_classes (more_trees u us)) h)) w q)
+        (each_kept (n + group_count t) (k + length (classes t)) (more_trees u us) (λ e. cc) p.1
+        (stand_right s groups unicode call cs false same_fold k (classes t) (row_classes (more_trees u us)) h) w q)
+        wanted
+
+    -- none of these branches, each from its own place
+    each_refused : (n k : ℕ) (ts : Trees) → AreRegular ts → StandAt s groups unicode call cs false same_fold k (row_classes ts) → (w : MatchState) → w.position ≤ len
+        → SameFirst (map spot_of (match_empty_if (is_none_of ((any_of (meanings s groups call n ts)).behind w)) w))
+        (plain.ways view len (re.cats (each_around unicode groups n k LookBehindNeg ts)) (spot_of w))
+    each_refused n k no_trees p h w q = λ wanted. refl
+    each_refused n k (more_trees t ts) p h w q =
+        none_of_both ((meaning s groups call n t).behind w) ((any_of (meanings s groups call (n + group_count t) ts)).behind w) w
+        (plain.ways view len (around unicode groups n k LookBehindNeg (re_of unicode groups n k t) t) (spot_of w))
+        (plain.ways view len (re.cats (each_around unicode groups (n + group_count t) (k + length (classes t)) LookBehindNeg ts)))
+        (ways_alike view len (re.cats (each_around unicode groups (n + group_count t) (k + length (classes t)) LookBehindNeg ts)))
+        (around_firsts n k LookBehindNeg t p.0 (stand_left s groups unicode call cs false same_fold k (classes t) (row_classes ts) h)
+        (tree_firsts n k t p.0 (stand_left s groups unicode call cs false same_fold k (classes t) (row_classes ts) h)) w q)
+        (each_refused (n + group_count t) (k + length (classes t)) ts p.1 (stand_right s groups unicode call cs false same_fold k (classes t) (row_classes ts) h) w q)

@@ -17,13 +17,14 @@ use Rattle.fancy_regex_linear.specs.RegularStates.{AreRegularStates}
 use Rattle.fancy_regex_linear.proofs.TreeLemmas.{emit_done, emit_both_done, emit_means, may_all}
 
 blind : View
-blind = record { has = λ leaf i. false; next = λ i. i; holds = λ test i. false; longest = false; has_parts = true }
+blind = record { has = λ leaf i. false; next = λ i. i; back = λ i. None; holds = λ test i. false; longest = false; has_parts = true }
 
 -- a state that accepts at once, where nothing is read and no test holds, is final
 only_final : (go : ℕ → Continuation) (s : State) → accept 0 ≡ visit blind 0 go s 0 → s ≡ End
 unfolding blind reads
 only_final go (S.Read leaf next) e = let none = ap (λ r. r.answer) e in cc
 only_final go (S.Look check next) e = let none = ap (λ r. r.answer) e in cc
+only_final go (S.Back next) e = let none = ap (λ r. r.answer) e in cc
 only_final go (Split first second) e = let deep = ap (λ r. r.depth) e in absurd (omega (arith, deep))
 only_final go (Enter g next) e = let deep = ap (λ r. r.depth) e in absurd (omega (arith, deep))
 only_final go (Leave g next) e = let deep = ap (λ r. r.depth) e in absurd (omega (arith, deep))

@@ -94,10 +94,7 @@ module _ (s : Setting) (groups : List Tree) (call : ℕ → Moves) where
         Each-cond (λ v. v.match_start ≡ w.match_start) (is_before_byte s.text 13 w.position && is_before_byte s.text 10 (w.position + 1)) (with_position w (w.position + 2) ∷ []) _
         (refl, tt) (char_keeps _ w (char_at s.text w.position))
     regular_keeps_start n (assertion a) p w = if_keeps (holds s a w.position) w w refl
-    regular_keeps_start n (look_around t LookAhead) p w = look_keeps LookAhead (meaning s groups call n t) w
-    regular_keeps_start n (look_around t LookAheadNeg) p w = look_keeps LookAheadNeg (meaning s groups call n t) w
-    regular_keeps_start n (look_around t LookBehind) p w = look_keeps LookBehind (meaning s groups call n t) w
-    regular_keeps_start n (look_around t LookBehindNeg) p w = look_keeps LookBehindNeg (meaning s groups call n t) w
+    regular_keeps_start n (look_around t how) p w = look_keeps how (meaning s groups call n t) w
     regular_keeps_start n (atomic_group t) p w = first_keeps w ((meaning s groups call n t).from w) (regular_keeps_start n t p w)
     regular_keeps_start n (concat ts) p w = row_keeps n ts p w
     regular_keeps_start n (alt ts) p w = branches_keeps n ts p.1 w

@@ -31,8 +31,8 @@ shape_alt parts = ap shape (sym (node.rolls-Alt parts)) ∙ fold-roll-Node Re no
 pub shape_repeat : (body : Box Node Global) (q : Quantifier) → shape (node.Repeat body q) ≡ repeat q.lo q.hi q.greedy q.moves (shape body.value)
 shape_repeat body q = ap shape (sym (node.rolls-Repeat body q)) ∙ fold-roll-Node Re node_shape (Node-F.Repeat body q)
 
-pub shape_ask : (negated : Bool) (body : Box Node Global) → shape (node.Ask negated body) ≡ ask negated (shape body.value)
-shape_ask negated body = ap shape (sym (node.rolls-Ask negated body)) ∙ fold-roll-Node Re node_shape (Node-F.Ask negated body)
+pub shape_ask : (negated : Bool) (back : ℕ) (body : Box Node Global) → shape (node.Ask negated back body) ≡ ask negated back (shape body.value)
+shape_ask negated back body = ap shape (sym (node.rolls-Ask negated back body)) ∙ fold-roll-Node Re node_shape (Node-F.Ask negated back body)
 
 pub shape_read : (leaf : Leaf) → shape (node.Read leaf) ≡ read leaf
 shape_read leaf = ap shape (sym (node.rolls-Read leaf)) ∙ fold-roll-Node Re node_shape (Node-F.Read leaf)

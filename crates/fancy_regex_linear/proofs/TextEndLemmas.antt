@@ -16,7 +16,7 @@ use Rattle.fancy_regex_states.specs.declared.atom.Test.TheVariants.{LookAheadNeg
 use Rattle.fancy_regex_linear.specs.Re.{Re, read, test}
 use Rattle.fancy_regex_linear.specs.Plain.{last_newline, text_end_re}
 use Rattle.fancy_regex_linear.specs.SettingView.{view_of}
-use Rattle.fancy_regex_linear.specs.Meaning.{Spot, each, in_order, after_iteration, loop_ways, times_ways, tail_ways, asked_ways}
+use Rattle.fancy_regex_linear.specs.Meaning.{Spot, each, in_order, after_iteration, loop_ways, times_ways, tail_ways, asked_ways, place_before}
 use Rattle.fancy_regex_linear.specs.Meaning as plain
 use Rattle.fancy_regex_linear.proofs.CharTestLemmas.{byte_at}
 use Rattle.fancy_regex_linear.proofs.MeaningLemmas.{spot_of}
@@ -280,7 +280,7 @@ module _ (s : Setting) (cs : List (Text × Bool)) where
 
   pub text_end_same : (crlf : Bool) (w : MatchState) → w.position ≤ len
       → map spot_of (match_empty_if (are_newlines crlf (drop w.position s.text)) w) ≡ plain.ways view len (text_end_re crlf) (spot_of w)
-  unfolding plain.ways times_ways tail_ways
+  unfolding plain.ways place_before times_ways tail_ways
   text_end_same crlf w inside =
       let told = tells (group_slots w.pairs) crlf (len - w.position) w.position (omega arith) inside in
       kept_by w (are_newlines crlf (drop w.position s.text)) (newlines crlf (group_slots w.pairs) (len - w.position) w.position) told.0 told.1

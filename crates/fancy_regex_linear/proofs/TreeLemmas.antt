@@ -1,15 +1,15 @@
 -- The states of a tree do what trying it does.
-use Rattle.std.proofs.Common.{◌≡◌, ℕ, ◌+◌, ◌*◌, ◌<◌, ◌≤◌, true, List, length, refl, sym, ap, ap₂, ◌∙◌, inr, ⊎_elim, arith}
+use Rattle.std.proofs.Common.{◌≡◌, ℕ, zero, suc, ◌+◌, ◌-◌, ◌*◌, ◌<◌, ◌≤◌, true, List, length, Option, Some, None, refl, sym, ap, ap₂, subst, ◌∙◌, inr, ⊎_elim, arith}
 use Rattle.std.proofs.lemmas.Bool.{cases_lt}
-use Rattle.fancy_regex_states.specs.Attempts.{View, AttemptResult, Continuation, guard, either, save, accept, asked, passed, pick, NamesBelow, MayAsk, visit}
+use Rattle.fancy_regex_states.specs.Attempts.{View, AttemptResult, Continuation, guard, either, save, accept, asked, passed, pick, resume, stepped, NamesBelow, MayAsk, visit}
 use Rattle.fancy_regex_linear.specs.Meaning.{is_unbounded}
-use Rattle.fancy_regex_linear.specs.Attempt.{attempt}
-use Rattle.fancy_regex_linear.specs.Program.{IsSound, MayAskIn, push, Emitter, BothEmitter, emitted, emitted_part, emitted_both, emitted_both_group, emitted_both_part, emitted_both_asking, emitted_choice, AgreeBut}
+use Rattle.fancy_regex_linear.specs.Attempt.{attempt, behind}
+use Rattle.fancy_regex_linear.specs.Program.{IsSound, MayAskIn, push, Emitter, BothEmitter, emitted, emitted_back, emitted_part, emitted_both, emitted_both_group, emitted_both_part, emitted_both_asking, AgreeBut, emitted_choice}
 use Rattle.fancy_regex_linear.specs.Re.{Re, nothing, read, test, cat, alt, group, repeat, ask, atomic, conditional}
 use Rattle.fancy_regex_states.specs.declared.state.State.{State}
 use Rattle.fancy_regex_states.specs.declared.state.State.TheVariants.{Split, Enter, Leave, Ask, Atomic, Match}
 use Rattle.fancy_regex_states.specs.declared.state.State.TheVariants as S
-use Rattle.fancy_regex_linear.proofs.AgreeLemmas.{IsWithin, end_within, guard_cong, passed_cong, reads_below, pick_same, pick_moved, pick_both, Looks, attempt_agree, attempt_moves, attempt_ends}
+use Rattle.fancy_regex_linear.proofs.AgreeLemmas.{IsWithin, end_within, guard_cong, passed_cong, reads_below, pick_same, pick_moved, pick_both, resume_pick, Looks, attempt_agree, attempt_ends, attempt_moves}
 use Rattle.fancy_regex_linear.proofs.EmitLemmas.{length-push, names_more, visit_same, push_done, Done, DoneBoth}
 use Rattle.fancy_regex_linear.proofs.RepeatLemmas.{Emits, EmitsTwo, picks_rest, seq_done, seq_two_done, repeat_done, repeat_two_done}
 
@@ -99,6 +99,13 @@ module _ (view : View) (stop : ℕ) where
         moved_means = λ i h. ap (λ k. k i) q.here;
       }
 
+  -- what follows a part is what a node picks
+  passes_on : (part : AttemptResult) (i : ℕ) (same moved : Continuation) → IsWithin i stop part.answer
+      → passed part (pick i same moved) ≡ passed part (resume i same moved)
+  passes_on part i same moved within =
+      passed_cong part (pick i same moved) (resume i same moved)
+      (λ t e. sym (resume_pick i same moved t.end (end_within i stop part.answer t within e).0))
+
   -- two states after these, and the choice between them
   choice_done : (Open : ℕ → Type 0) (states : List State) (go : ℕ → Continuation) (one two : State) (g : Continuation) → AgreeBut view stop Open states go
       → NamesBelow (length states) one → NamesBelow (length states) two → MayAsk view.has_parts one → MayAsk view.has_parts two
@@ -136,17 +143,36 @@ module _ (view : View) (stop : ℕ) where
       }
 
   -- what goes on at one place, moved or not
-  passes_one : (go : ℕ → Continuation) (k : Continuation) (result : AttemptResult) (part next i : ℕ) → go part i ≡ result → go next ≡ k
-      → passed result k ≡ passed (go part i) (pick i (go next) (go next))
-  passes_one go k result part next i part_means next_means =
-      ap₂ passed (sym part_means) (sym next_means) ∙ sym (passed_cong (go part i) (pick i (go next) (go next)) (go next) (λ t e. pick_both i (go next) t.end))
+  passes_one : (go : ℕ → Continuation) (k : Continuation) (result : AttemptResult) (part next i : ℕ) → IsWithin i stop result.answer
+      → go part i ≡ result → go next ≡ k → passed result k ≡ passed (go part i) (resume i (go next) (go next))
+  passes_one go k result part next i within part_means next_means =
+      let here : IsWithin i stop (go part i).answer = subst (λ (r : AttemptResult). IsWithin i stop r.answer) (sym part_means) within in
+      ap₂ passed (sym part_means) (sym next_means)
+      ∙ sym (passed_cong (go part i) (pick i (go next) (go next)) (go next) (λ t e. pick_both i (go next) t.end))
+      ∙ passes_on (go part i) i (go next) (go next) here
+
+  -- a step back
+  stepped_same : (o : Option ℕ) (i : ℕ) (k k2 : Continuation) → ((bytes : ℕ) → k (i - bytes) ≡ k2 (i - bytes)) → stepped o i k ≡ stepped o i k2
+  stepped_same None i k k2 h = refl
+  stepped_same (Some bytes) i k k2 h = ap (guard true) (h bytes)
+
+  -- states that step back to a part
+  back_done : (n : ℕ) (Open : ℕ → Type 0) (states : List State) (go : ℕ → Continuation) (made : List State × ℕ) (part : Continuation)
+      → Done view stop Open states go made part → view.has_parts ≡ true → Done view stop Open states go (emitted_back n made.0 made.1) (behind view n part)
+  unfolding emitted_back behind
+  back_done zero Open states go made part d may = d
+  back_done (suc n) Open states go made part d may =
+      let rest = back_done n Open states go made part d may in
+      let so_far = emitted_back n made.0 made.1 in
+      state_after_done Open states go so_far (behind view n part) (S.Back so_far.1) (behind view (suc n) part) rest rest.entry may
+      (λ i h. stepped_same (view.back i) i (behind view n part) (rest.next_go so_far.1) (λ bytes. sym (rest.means (i - bytes) (omega (arith, h)))))
 
   -- a branch goes on at the end of the part, which is in the range
   branch_passes : (go : ℕ → Continuation) (k : Continuation) (result : AttemptResult) (part next i : ℕ) → go part i ≡ result
-      → IsWithin i stop result.answer → ((j : ℕ) → j ≤ stop → go next j ≡ k j) → passed result k ≡ passed (go part i) (pick i (go next) (go next))
+      → IsWithin i stop result.answer → ((j : ℕ) → j ≤ stop → go next j ≡ k j) → passed result k ≡ passed (go part i) (resume i (go next) (go next))
   branch_passes go k result part next i part_means within next_means =
       passed_cong result k (go next) (λ t is. sym (next_means t.end (end_within i stop result.answer t within is).1))
-      ∙ passes_one go (go next) result part next i part_means refl
+      ∙ passes_one go (go next) result part next i within part_means refl
 
   pub emit_done : ((t : Re) → IsSound t → MayAskIn view.has_parts t → EmitsBoth t) → (t : Re) → IsSound t → MayAskIn view.has_parts t → Emits view stop (emitted t) (attempt view stop t)
   unfolding emitted attempt
@@ -214,10 +240,13 @@ module _ (view : View) (stop : ℕ) where
   emit_done both (repeat lo hi greedy strict a) sound may Open states go next before inside =
       repeat_done view stop (emitted a) (emitted_both a) (attempt view stop a) (attempt_agree view stop a) (emit_done both a sound.1 may) (both a sound.1 may)
       (is_unbounded hi) strict (λ e. attempt_moves view stop a (sound.0 e)) lo hi greedy Open states go next before inside
-  emit_done both (ask negated a) sound may Open states go next before inside =
-      let d = part_done (emitted a) (attempt view stop a) (emit_done both a sound may.1) Open states go before in
-      let part = emitted_part (emitted a) states in
-      state_after_done Open states go part (attempt view stop a accept) (Ask part.1 negated next) (attempt view stop (ask negated a) (go next)) d
+  emit_done both (ask negated back a) sound may Open states go next before inside =
+      let body = emitted_part (emitted a) states in
+      let d = back_done back Open states go body (attempt view stop a accept)
+      (part_done (emitted a) (attempt view stop a) (emit_done both a sound may.1) Open states go before) may.0 in
+      let part = emitted_back back body.0 body.1 in
+      state_after_done Open states go part (behind view back (attempt view stop a accept)) (Ask part.1 negated next)
+      (attempt view stop (ask negated back a) (go next)) d
       (d.entry, omega (arith, d.longer)) may.0
       (λ i h. ap₂ (asked negated) (sym (d.means i h)) (ap (λ f. f i) (sym (d.unchanged next inside))))
   emit_done both (atomic a) sound may Open states go next before inside =
@@ -225,7 +254,7 @@ module _ (view : View) (stop : ℕ) where
       let part = emitted_part (emitted a) states in
       state_after_done Open states go part (attempt view stop a accept) (Atomic part.1 next next) (attempt view stop (atomic a) (go next)) d
       (d.entry, omega (arith, d.longer), omega (arith, d.longer)) may.0
-      (λ i h. passes_one d.next_go (go next) (attempt view stop a accept i) part.1 next i (d.means i h) (d.unchanged next inside))
+      (λ i h. passes_one d.next_go (go next) (attempt view stop a accept i) part.1 next i (attempt_ends view stop a i h) (d.means i h) (d.unchanged next inside))
   emit_done both (conditional c a b) sound may Open states go next before inside =
       let d = emit_done both b sound.1.1 may.1.1.1 Open states go next before inside in
       let right = emitted b states next in
@@ -266,12 +295,13 @@ module _ (view : View) (stop : ℕ) where
   both_branch_passes : (go : ℕ → Continuation) (B : Continuation → Continuation) → Looks view stop B → (same moved : Continuation) (result : AttemptResult)
       (part at_same at_moved i : ℕ) → go part i ≡ result → IsWithin i stop result.answer
       → ((j : ℕ) → j ≤ stop → go at_same j ≡ B (pick j same moved) j) → ((j : ℕ) → j ≤ stop → go at_moved j ≡ B moved j)
-      → passed result (B (pick i same moved)) ≡ passed (go part i) (pick i (go at_same) (go at_moved))
+      → passed result (B (pick i same moved)) ≡ passed (go part i) (resume i (go at_same) (go at_moved))
   both_branch_passes go B ok same moved result part at_same at_moved i part_means within same_means moved_means =
       passed_cong result (B (pick i same moved)) (pick i (go at_same) (go at_moved))
       (λ t is. let ends = end_within i stop result.answer t within is in
       sym (picks_rest view stop B ok i t.end same moved (go at_same) (go at_moved) ends.0 ends.1 (same_means t.end ends.1) (moved_means t.end ends.1)))
-      ∙ ap (λ r. passed r (pick i (go at_same) (go at_moved))) (sym part_means)
+      ∙ passes_on result i (go at_same) (go at_moved) within
+      ∙ ap (λ r. passed r (resume i (go at_same) (go at_moved))) (sym part_means)
 
   pub emit_both_done : (t : Re) → IsSound t → MayAskIn view.has_parts t → EmitsBoth t
   unfolding emitted_both emitted_both_group attempt
@@ -404,11 +434,13 @@ module _ (view : View) (stop : ℕ) where
   emit_both_done (repeat lo hi greedy strict a) sound may Open states go same moved before a_in b_in =
       repeat_two_done view stop (emitted_both a) (attempt view stop a) (attempt_agree view stop a) (emit_both_done a sound.1 may)
       (is_unbounded hi) strict (λ e. attempt_moves view stop a (sound.0 e)) lo hi greedy Open states go same moved before a_in b_in
-  emit_both_done (ask negated a) sound may Open states go same moved before a_in b_in =
-      let d = both_part_done (emitted_both a) (attempt view stop a) (attempt_agree view stop a) (emit_both_done a sound may.1) Open states go before in
-      let part = emitted_both_part (emitted_both a) states in
-      two_states_after_done Open states go part (attempt view stop a accept) (Ask part.1 negated same) (Ask part.1 negated moved)
-      (fresh (ask negated a) (go same) (go moved)) (attempt view stop (ask negated a) (go moved)) d
+  emit_both_done (ask negated back a) sound may Open states go same moved before a_in b_in =
+      let body = emitted_both_part (emitted_both a) states in
+      let d = back_done back Open states go body (attempt view stop a accept)
+      (both_part_done (emitted_both a) (attempt view stop a) (attempt_agree view stop a) (emit_both_done a sound may.1) Open states go before) may.0 in
+      let part = emitted_back back body.0 body.1 in
+      two_states_after_done Open states go part (behind view back (attempt view stop a accept)) (Ask part.1 negated same) (Ask part.1 negated moved)
+      (fresh (ask negated back a) (go same) (go moved)) (attempt view stop (ask negated back a) (go moved)) d
       (d.entry, omega (arith, d.longer)) (d.entry, omega (arith, d.longer)) may.0 may.0
       (λ i h. ap₂ (asked negated) (sym (d.means i h)) (pick_same i (go same) (go moved) i (omega arith) ∙ ap (λ f. f i) (sym (d.unchanged same a_in))))
       (λ i h. ap₂ (asked negated) (sym (d.means i h)) (ap (λ f. f i) (sym (d.unchanged moved b_in))))
@@ -418,8 +450,9 @@ module _ (view : View) (stop : ℕ) where
       two_states_after_done Open states go part (attempt view stop a accept) (Atomic part.1 same moved) (Atomic part.1 moved moved)
       (fresh (atomic a) (go same) (go moved)) (attempt view stop (atomic a) (go moved)) d
       (d.entry, omega (arith, d.longer), omega (arith, d.longer)) (d.entry, omega (arith, d.longer), omega (arith, d.longer)) may.0 may.0
-      (λ i h. ap₂ passed (sym (d.means i h)) (ap₂ (pick i) (sym (d.unchanged same a_in)) (sym (d.unchanged moved b_in))))
-      (λ i h. passes_one d.next_go (go moved) (attempt view stop a accept i) part.1 moved i (d.means i h) (d.unchanged moved b_in))
+      (λ i h. passes_on (attempt view stop a accept i) i (go same) (go moved) (attempt_ends view stop a i h)
+      ∙ ap₂ passed (sym (d.means i h)) (ap₂ (resume i) (sym (d.unchanged same a_in)) (sym (d.unchanged moved b_in))))
+      (λ i h. passes_one d.next_go (go moved) (attempt view stop a accept i) part.1 moved i (attempt_ends view stop a i h) (d.means i h) (d.unchanged moved b_in))
   emit_both_done (conditional c a b) sound may Open states go same moved before a_in b_in =
       let d = emit_both_done b sound.1.1 may.1.1.1 Open states go same moved before a_in b_in in
       let right = emitted_both b states same moved in
@@ -482,6 +515,6 @@ may_all (cat a b) = (may_all a, may_all b)
 may_all (alt a b) = (may_all a, may_all b)
 may_all (group g a) = may_all a
 may_all (repeat lo hi greedy strict a) = may_all a
-may_all (ask negated a) = (refl, may_all a)
+may_all (ask negated back a) = (refl, may_all a)
 may_all (atomic a) = (refl, may_all a)
 may_all (conditional c a b) = (refl, (may_all c, (may_all a, may_all b)))

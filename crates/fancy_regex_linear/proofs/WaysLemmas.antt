@@ -2,10 +2,10 @@
 use Rattle.std.proofs.Common.{◌≡◌, ℕ, zero, suc, ◌+◌, ◌*◌, ◌-◌, ◌<◌, ◌≤◌, Bool, true, false, List, [], ◌∷◌, ◌++◌, map, Option, Some, None, if◌then◌else◌, nat_lt, arith, set, refl, sym, ap, ap₂, ◌∙◌, ⊎_elim, lt-ltb, le-ltb}
 use Rattle.std.proofs.lemmas.Bool.{cases_lt}
 use Rattle.std.proofs.lemmas.Option.{none-some, same_Some}
-use Rattle.fancy_regex_states.specs.Attempts.{View, reads, Trace, AttemptResult, Continuation, score, better, better_trace, failed, accept, guard, write, save, after_writes, asked_answer, passed_answer, pick}
-use Rattle.fancy_regex_linear.specs.Meaning.{Spot, each, in_order, after_iteration, loop_ways, times_ways, upto_ways, tail_ways, is_unbounded, asked_ways, first_way, ways}
+use Rattle.fancy_regex_states.specs.Attempts.{View, reads, Trace, AttemptResult, Continuation, score, better, better_trace, failed, accept, guard, write, save, after_writes, asked_answer, passed_answer, pick, stepped}
+use Rattle.fancy_regex_linear.specs.Meaning.{Spot, each, in_order, after_iteration, loop_ways, times_ways, upto_ways, tail_ways, is_unbounded, asked_ways, first_way, at_bytes_before, place_before, ways_at, ways}
 use Rattle.fancy_regex_linear.specs.Attempt.{apply, trace_end}
-use Rattle.fancy_regex_linear.specs.Attempt.{better_spot, prefer, iterations, times_try, upto_try, tail_try, attempt}
+use Rattle.fancy_regex_linear.specs.Attempt.{better_spot, prefer, iterations, times_try, upto_try, tail_try, behind, attempt}
 use Rattle.fancy_regex_linear.specs.Program.{MayAskIn}
 use Rattle.fancy_regex_linear.specs.Re.{Re, nothing, read, test, cat, alt, group, repeat, ask, atomic, conditional}
 use Rattle.fancy_regex_linear.proofs.AgreeLemmas.{pick_same, pick_moved}
@@ -217,6 +217,21 @@ unfolding best_from trace_end apply
 first_best [] = refl
 first_best (w ∷ ws) = first_better w (best_from false (onward accept) ws)
 
+-- so many characters before
+module _ (view : View) (part : Continuation) (list : Spot → List Spot) (slots : List ℕ)
+    (same : (i : ℕ) → trace_end slots (part i).answer ≡ first_of (list (record { at = i; slots = slots }))) where
+  stepped_lists : (n : ℕ) (o : Option ℕ) (s : Spot) (i : ℕ)
+      → ((j : ℕ) → trace_end slots (behind view n part j).answer ≡ first_of (ways_at list s (place_before view n j)))
+      → trace_end slots (stepped o i (behind view n part)).answer ≡ first_of (ways_at list s (at_bytes_before (place_before view n) i o))
+  unfolding trace_end
+  stepped_lists n None s i lists = refl
+  stepped_lists n (Some bytes) s i lists = lists (i - bytes)
+
+  behind_lists : (n : ℕ) (s : Spot) (i : ℕ) → s.slots ≡ slots → trace_end slots (behind view n part i).answer ≡ first_of (ways_at list s (place_before view n i))
+  unfolding behind place_before
+  behind_lists zero s i e = same i ∙ ap (λ (xs : List ℕ). first_of (list (record { at = i; slots = xs }))) (sym e)
+  behind_lists (suc n) s i e = stepped_lists n (view.back i) s i (λ j. behind_lists n s j e)
+
 module _ (view : View) (stop : ℕ) where
   first_is : view.longest ≡ false → (ws : List Spot) → best_from view.longest (onward accept) ws ≡ first_of ws
   first_is wants_first ws = rw wants_first (first_best ws)
@@ -242,8 +257,10 @@ module _ (view : View) (stop : ℕ) where
       times_list view.longest (attempt view stop a) (ways view stop a) (attempt_lists first a may)
       (tail_try view.longest (is_unbounded hi) stop g (attempt view stop a) (hi - lo)) (tail_ways (is_unbounded hi) stop g (ways view stop a) (hi - lo))
       (tail_list view.longest (is_unbounded hi) stop g (attempt view stop a) (ways view stop a) (attempt_lists first a may) (hi - lo)) lo k s
-  attempt_lists first (ask negated a) may k s =
-      asked_list view.longest negated s k (attempt view stop a accept s.at).answer (ways view stop a s) (attempt_lists first a may.1 accept s ∙ first_is (first may.0) (ways view stop a s))
+  attempt_lists first (ask negated back a) may k s =
+      asked_list view.longest negated s k (behind view back (attempt view stop a accept) s.at).answer (ways_at (ways view stop a) s (place_before view back s.at))
+      (behind_lists view (attempt view stop a accept) (ways view stop a) s.slots
+      (λ i. let here : Spot = record { at = i; slots = s.slots } in attempt_lists first a may.1 accept here ∙ first_is (first may.0) (ways view stop a here)) back s s.at refl)
   attempt_lists first (atomic a) may k s =
       passed_list view.longest s k (attempt view stop a accept s.at).answer (ways view stop a s) (attempt_lists first a may.1 accept s ∙ first_is (first may.0) (ways view stop a s))
   attempt_lists first (conditional c a b) may k s =

@@ -1,6 +1,6 @@
 -- A tree becomes no more states than it weighs.
 use Rattle.std.proofs.Common.{◌≡◌, ℕ, zero, suc, ◌-◌, max, Bool, true, false, ◌+◌, ◌*◌, ◌≤◌, List, [], ◌∷◌, length, arith, length-append, length-set}
-use Rattle.fancy_regex_linear.specs.Program.{loop_head, push, Emitter, BothEmitter, emitted_times, emitted_both_times, emitted_upto, emitted_both_upto, emitted_star, emitted_both_star, emitted_plus, emitted_both_plus, emitted_many, emitted_both_many, emitted_repeat, emitted_both_repeat, emitted_both_group, emitted_part, emitted_both_part, emitted_both_asking, emitted_choice, repeat_weight, emitted, emitted_both, weight}
+use Rattle.fancy_regex_linear.specs.Program.{loop_head, push, Emitter, BothEmitter, emitted_back, emitted_times, emitted_both_times, emitted_upto, emitted_both_upto, emitted_star, emitted_both_star, emitted_plus, emitted_both_plus, emitted_many, emitted_both_many, emitted_repeat, emitted_both_repeat, emitted_both_group, emitted_part, emitted_both_part, emitted_both_asking, repeat_weight, emitted, emitted_both, weight, emitted_choice}
 use Rattle.fancy_regex_linear.specs.Meaning.{is_unbounded}
 use Rattle.fancy_regex_linear.specs.Re.{Re, nothing, read, test, cat, alt, group, repeat, ask, atomic, conditional}
 use Rattle.fancy_regex_states.specs.declared.state.State.{State}
@@ -142,6 +142,13 @@ part_weighs one w h states = omega (arith, pushes states Match, h (push states M
 both_part_weighs : (both : BothEmitter) (w : ℕ) → WeighsBoth both w → (states : List State) → length (emitted_both_part both states).0 ≤ length states + w + 1
 both_part_weighs both w h states = omega (arith, pushes states Match, h (push states Match) (length states) (length states))
 
+back_weighs : (n : ℕ) (states : List State) (next : ℕ) → length (emitted_back n states next).0 ≡ length states + n
+unfolding emitted_back
+back_weighs zero states next = omega arith
+back_weighs (suc n) states next =
+    let rest = emitted_back n states next in
+    omega (arith, back_weighs n states next, pushes rest.0 (S.Back rest.1))
+
 asking_weighs : (same moved : State) (states : List State) → length (emitted_both_asking same moved states).0 ≡ length states + 2
 unfolding emitted_both_asking
 asking_weighs same moved states = omega (arith, pushes states same, pushes (push states same) moved)
@@ -178,11 +185,13 @@ emitted_both_weighs (group g a) states same moved =
     omega (arith, group_weighs_both g (emitted_both a) (2 * weight a) (emitted_both_weighs a) states same moved)
 emitted_both_weighs (repeat lo hi greedy strict a) states same moved =
     repeat_weighs_both (emitted_both a) (weight a) (emitted_both_weighs a) (is_unbounded hi) strict lo hi greedy states same moved
-emitted_both_weighs (ask negated a) states same moved =
-    let part = emitted_both_part (emitted_both a) states in
+emitted_both_weighs (ask negated back a) states same moved =
+    let body = emitted_both_part (emitted_both a) states in
+    let part = emitted_back back body.0 body.1 in
     omega (
       arith,
       both_part_weighs (emitted_both a) (2 * weight a) (emitted_both_weighs a) states,
+      back_weighs back body.0 body.1,
       asking_weighs (Ask part.1 negated same) (Ask part.1 negated moved) part.0,
     )
 emitted_both_weighs (atomic a) states same moved =
@@ -230,9 +239,10 @@ emitted_weighs (group g a) states next =
     )
 emitted_weighs (repeat lo hi greedy strict a) states next =
     repeat_weighs (emitted a) (emitted_both a) (weight a) (emitted_weighs a) (emitted_both_weighs a) (is_unbounded hi) strict lo hi greedy states next
-emitted_weighs (ask negated a) states next =
-    let part = emitted_part (emitted a) states in
-    omega (arith, part_weighs (emitted a) (weight a) (emitted_weighs a) states, pushes part.0 (Ask part.1 negated next))
+emitted_weighs (ask negated back a) states next =
+    let body = emitted_part (emitted a) states in
+    let part = emitted_back back body.0 body.1 in
+    omega (arith, part_weighs (emitted a) (weight a) (emitted_weighs a) states, back_weighs back body.0 body.1, pushes part.0 (Ask part.1 negated next))
 emitted_weighs (atomic a) states next =
     let part = emitted_part (emitted a) states in
     omega (arith, part_weighs (emitted a) (weight a) (emitted_weighs a) states, pushes part.0 (Atomic part.1 next next))

@@ -1,7 +1,7 @@
 -- An attempt to match a pattern at an offset: its answer, and the depth of its search.
 use Rattle.std.specs.Prelude.{true, false, ℕ, zero, suc, ◌+◌, ◌-◌, ◌*◌, Bool, List, [], ◌∷◌, Option, Some, None, if◌then◌else◌, slice_set}
 use Rattle.fancy_regex_linear.specs.Re.{Re, nothing, read, test, cat, alt, group, repeat, ask, atomic, conditional}
-use Rattle.fancy_regex_states.specs.Attempts.{View, Trace, AttemptResult, Continuation, score, better, failed, guard, save, either, reads, accept, asked, passed, pick}
+use Rattle.fancy_regex_states.specs.Attempts.{View, Trace, AttemptResult, Continuation, score, better, failed, guard, save, either, reads, accept, asked, passed, pick, stepped}
 use Rattle.fancy_regex_linear.specs.Meaning.{Spot, is_unbounded}
 
 abbrev pub better_spot : Bool → Option Spot → Option Spot → Option Spot
@@ -34,6 +34,11 @@ module _ (longest : Bool) where
   tail_try true stop greedy body n k i = star_try stop greedy body k i
   tail_try false stop greedy body n k i = upto_try greedy body n k i
 
+-- what follows so many characters before
+unfoldable pub behind : View → ℕ → Continuation → Continuation
+behind view zero k i = k i
+behind view (suc n) k i = stepped (view.back i) i (behind view n k)
+
 module _ (view : View) (stop : ℕ) where
   -- `attempt pattern k i`: match the pattern from i, and then k from where that end_spot
   unfoldable pub attempt : Re → Continuation → Continuation
@@ -45,7 +50,7 @@ module _ (view : View) (stop : ℕ) where
   attempt (group g a) k i = save (2 * g) i (attempt a (λ j. save (2 * g + 1) j (k j)) i)
   attempt (repeat lo hi greedy strict a) k i =
       times_try (attempt a) lo (tail_try view.longest (is_unbounded hi) stop greedy (attempt a) (hi - lo) k) i
-  attempt (ask negated a) k i = asked negated (attempt a accept i) (k i)
+  attempt (ask negated back a) k i = asked negated (behind view back (attempt a accept) i) (k i)
   attempt (atomic a) k i = passed (attempt a accept i) k
   attempt (conditional c a b) k i =
       either view.longest (passed (attempt c accept i) (attempt a k)) (asked true (attempt c accept i) (attempt b k i))

@@ -1,5 +1,5 @@
 -- What a pattern matches in a range: the list of its matches in the order of preference (the ways).
-use Rattle.std.specs.Prelude.{ℕ, zero, suc, ◌+◌, ◌-◌, ◌*◌, Bool, true, false, List, [], ◌∷◌, ◌++◌, map, if◌then◌else◌, nat_lt, nat_le, nat_eq, slice_set}
+use Rattle.std.specs.Prelude.{ℕ, zero, suc, ◌+◌, ◌-◌, ◌*◌, Bool, true, false, List, [], ◌∷◌, ◌++◌, map, Option, Some, None, if◌then◌else◌, nat_lt, nat_le, nat_eq, slice_set}
 use Rattle.fancy_regex_linear.specs.Re.{Re, nothing, read, test, cat, alt, group, repeat, ask, atomic, conditional}
 use Rattle.fancy_regex_states.specs.Attempts.{View, reads}
 
@@ -55,6 +55,21 @@ abbrev pub first_way : List Spot → List Spot
 first_way [] = []
 first_way (w ∷ ws) = w ∷ []
 
+-- the offset so many bytes before, if there is one
+abbrev pub at_bytes_before : (ℕ → Option ℕ) → ℕ → Option ℕ → Option ℕ
+at_bytes_before place i None = None
+at_bytes_before place i (Some bytes) = place (i - bytes)
+
+-- the ways from this offset, if there is one
+abbrev pub ways_at : (Spot → List Spot) → Spot → Option ℕ → List Spot
+ways_at list s None = []
+ways_at list s (Some i) = list (record { at = i; slots = s.slots })
+
+-- the offset so many characters before this one, if there are so many
+unfoldable pub place_before : View → ℕ → ℕ → Option ℕ
+place_before view zero i = Some i
+place_before view (suc n) i = at_bytes_before (place_before view n) i (view.back i)
+
 module _ (view : View) (stop : ℕ) where
   -- the ways of a pattern from an offset, in the order of preference
   unfoldable pub ways : Re → Spot → List Spot
@@ -68,7 +83,7 @@ module _ (view : View) (stop : ℕ) where
       (ways a (record { at = s.at; slots = slice_set s.slots (2 * k) s.at }))
   ways (repeat lo hi greedy strict a) s =
       times_ways (ways a) lo (tail_ways (is_unbounded hi) stop greedy (ways a) (hi - lo)) s
-  ways (ask negated a) s = asked_ways negated s (ways a s)
+  ways (ask negated back a) s = asked_ways negated s (ways_at (ways a) s (place_before view back s.at))
   ways (atomic a) s = first_way (ways a s)
   ways (conditional c a b) s = each (ways a) (first_way (ways c s)) ++ each (ways b) (asked_ways true s (ways c s))
 

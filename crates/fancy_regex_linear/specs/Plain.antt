@@ -8,7 +8,7 @@ use Rattle.fancy_regex_tree.specs.declared.expr.BacktrackingControlVerb.TheVaria
 use Rattle.fancy_regex_tree.specs.declared.expr.LookAround.{LookAround}
 use Rattle.fancy_regex_tree.specs.declared.expr.LookAround.TheVariants as L
 use Rattle.fancy_regex_meaning.specs.Groups.{group_count}
-use Rattle.fancy_regex_meaning.specs.Sizes.{may_be_empty}
+use Rattle.fancy_regex_meaning.specs.Sizes.{size, may_be_empty}
 use Rattle.fancy_regex_class.specs.Classes.{folded}
 use Rattle.fancy_regex_linear.specs.Re as re
 use Rattle.fancy_regex_linear.specs.Re.{Re}
@@ -73,7 +73,7 @@ IsFail Fail = Unit {0}
 IsFail _ = ⊥
 
 -- Trees that become a pattern with parts: plain ones, `\R`, `\Z`, those that never match, definitions of groups, which match the
--- empty string, and look-aheads, atomic groups and conditionals over any such trees.
+-- empty string, and look-arounds, atomic groups and conditionals over any such trees.
 abbrev mutual
   pub IsRegular : Tree → Type 0
   IsRegular empty = Unit {0}
@@ -85,10 +85,7 @@ abbrev mutual
   IsRegular (concat ts) = AreRegular ts
   IsRegular (alt ts) = (ts ≢ no_trees) × AreRegular ts
   IsRegular (group t) = IsRegular t
-  IsRegular (look_around t L.LookAhead) = IsRegular t
-  IsRegular (look_around t L.LookAheadNeg) = IsRegular t
-  IsRegular (look_around t L.LookBehind) = IsOneChar t
-  IsRegular (look_around t L.LookBehindNeg) = IsOneChar t
+  IsRegular (look_around t how) = IsRegular t
   IsRegular (atomic_group t) = IsRegular t
   IsRegular (conditional c a b) = IsRegular c × (IsRegular a × IsRegular b)
   IsRegular (define_group t) = Unit {0}
@@ -152,7 +149,7 @@ last_newline true = re.alt (re.read (Char 10)) (re.cats (re.read (Char 13) ∷ r
 -- `\Z`: a look-ahead for newlines up to the end of the text, where a line ends and no `\n` follows
 abbrev pub text_end_re : Bool → Re
 text_end_re crlf =
-    re.ask false (re.cats (re.repeat 0 18446744073709551615 true true (last_newline crlf)
+    re.ask false 0 (re.cats (re.repeat 0 18446744073709551615 true true (last_newline crlf)
     ∷ re.test (EndLine false)
     ∷ re.test (LookAheadNeg (Char 10)) ∷ []))
 
@@ -175,16 +172,31 @@ look_test L.LookAheadNeg leaf = LookAheadNeg leaf
 look_test L.LookBehind leaf = LookBehind leaf
 look_test L.LookBehindNeg leaf = LookBehindNeg leaf
 
--- a look-around over another tree: a look-ahead asks a part, a look-behind is not there
-abbrev pub asking : LookAround → Re → Re
-asking L.LookAhead body = re.ask false body
-asking L.LookAheadNeg body = re.ask true body
-asking L.LookBehind body = re.nothing
-asking L.LookBehindNeg body = re.nothing
+abbrev pub is_negated_look : LookAround → Bool
+is_negated_look L.LookAhead = false
+is_negated_look L.LookAheadNeg = true
+is_negated_look L.LookBehind = false
+is_negated_look L.LookBehindNeg = true
 
+abbrev pub is_look_behind : LookAround → Bool
+is_look_behind L.LookAhead = false
+is_look_behind L.LookAheadNeg = false
+is_look_behind L.LookBehind = true
+is_look_behind L.LookBehindNeg = true
+
+-- all of them, or one of them
+abbrev pub joined : Bool → List Re → Re
+joined true xs = re.cats xs
+joined false xs = re.alts xs
+
+-- a look-around by its leaf, if its tree reads one character; else a part is asked, so many characters before
 abbrev pub looked : LookAround → Option Leaf → Re → Re
-looked how None body = asking how body
-looked how (Some leaf) body = re.test (look_test how leaf)
+looked how None asking = asking
+looked how (Some leaf) asking = re.test (look_test how leaf)
+
+-- over how many characters a look-around steps back to its tree
+abbrev pub steps_back : List Tree → LookAround → Tree → ℕ
+steps_back groups how t = if is_look_behind how then (size groups t).least else 0
 
 module _ (unicode : Bool) (groups : List Tree) where
   -- the pattern of a tree, with the numbers of the group that opens first in it and of its first class
@@ -199,7 +211,7 @@ module _ (unicode : Bool) (groups : List Tree) where
     re_of n k (concat ts) = row_of n k ts
     re_of n k (alt ts) = branches_of n k ts
     re_of n k (group t) = re.group n (re_of (n + 1) k t)
-    re_of n k (look_around t how) = looked how (char_leaf unicode k t) (re_of n k t)
+    re_of n k (look_around t how) = around n k how (re_of n k t) t
     re_of n k (atomic_group t) = re.atomic (re_of n k t)
     re_of n k (conditional c a b) =
         re.conditional (re_of n k c) (re_of (n + group_count c) (k + length (classes c)) a)
@@ -218,3 +230,16 @@ module _ (unicode : Bool) (groups : List Tree) where
     branches_of n k (more_trees t no_trees) = re_of n k t
     branches_of n k (more_trees t (more_trees u us)) =
         re.alt (re_of n k t) (branches_of (n + group_count t) (k + length (classes t)) (more_trees u us))
+
+    -- a look-around over a tree with this pattern: in a look-behind, branches that are not equally long are looked for one by one
+    pub around : ℕ → ℕ → LookAround → Re → Tree → Re
+    around n k how body (alt ts) =
+        if is_look_behind how && not (size groups (alt ts)).always
+        then joined (is_negated_look how) (each_around n k how ts)
+        else re.ask (is_negated_look how) (steps_back groups how (alt ts)) body
+    around n k how body t = looked how (char_leaf unicode k t) (re.ask (is_negated_look how) (steps_back groups how t) body)
+
+    pub each_around : ℕ → ℕ → LookAround → Trees → List Re
+    each_around n k how no_trees = []
+    each_around n k how (more_trees t ts) =
+        around n k how (re_of n k t) t ∷ each_around (n + group_count t) (k + length (classes t)) how ts

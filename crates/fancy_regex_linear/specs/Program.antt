@@ -24,7 +24,7 @@ never_empty (cat a b) = never_empty a || never_empty b
 never_empty (alt a b) = never_empty a && never_empty b
 never_empty (group g a) = never_empty a
 never_empty (repeat lo hi greedy strict a) = nat_lt 0 lo && never_empty a
-never_empty (ask negated a) = false
+never_empty (ask negated back a) = false
 never_empty (atomic a) = never_empty a
 never_empty (conditional c a b) = (never_empty c || never_empty a) && never_empty b
 
@@ -37,7 +37,7 @@ IsSound (cat a b) = IsSound a × IsSound b
 IsSound (alt a b) = IsSound a × IsSound b
 IsSound (group g a) = IsSound a
 IsSound (repeat lo hi greedy strict a) = (strict ≡ true → never_empty a ≡ true) × IsSound a
-IsSound (ask negated a) = IsSound a
+IsSound (ask negated back a) = IsSound a
 IsSound (atomic a) = IsSound a
 IsSound (conditional c a b) = IsSound c × (IsSound a × IsSound b)
 
@@ -50,7 +50,7 @@ MayAskIn has_parts (cat a b) = MayAskIn has_parts a × MayAskIn has_parts b
 MayAskIn has_parts (alt a b) = MayAskIn has_parts a × MayAskIn has_parts b
 MayAskIn has_parts (group g a) = MayAskIn has_parts a
 MayAskIn has_parts (repeat lo hi greedy strict a) = MayAskIn has_parts a
-MayAskIn has_parts (ask negated a) = (has_parts ≡ true) × MayAskIn has_parts a
+MayAskIn has_parts (ask negated back a) = (has_parts ≡ true) × MayAskIn has_parts a
 MayAskIn has_parts (atomic a) = (has_parts ≡ true) × MayAskIn has_parts a
 MayAskIn has_parts (conditional c a b) =
     (has_parts ≡ true) × (MayAskIn has_parts c × (MayAskIn has_parts a × MayAskIn has_parts b))
@@ -168,6 +168,13 @@ emitted_both_part both states =
     let body = both (push states Match) (length states) (length states) in
     (body.0, body.1)
 
+-- so many states that step back, each over one character, and lead on to the state `next`
+unfoldable pub emitted_back : ℕ → List State → ℕ → List State × ℕ
+emitted_back zero states next = (states, next)
+emitted_back (suc n) states next =
+    let rest = emitted_back n states next in
+    (push rest.0 (S.Back rest.1), length rest.0)
+
 -- a part that is asked, and what goes on; the part is there once
 unfoldable pub emitted_both_asking : State → State → List State → List State × ℕ × ℕ
 emitted_both_asking same moved states =
@@ -200,8 +207,9 @@ emitted_both (alt a b) states same moved =
 emitted_both (group g a) states same moved = emitted_both_group g (emitted_both a) states same moved
 emitted_both (repeat lo hi greedy strict a) states same moved =
     emitted_both_repeat (is_unbounded hi) strict lo hi greedy (emitted_both a) states same moved
-emitted_both (ask negated a) states same moved =
-    let part = emitted_both_part (emitted_both a) states in
+emitted_both (ask negated back a) states same moved =
+    let body = emitted_both_part (emitted_both a) states in
+    let part = emitted_back back body.0 body.1 in
     emitted_both_asking (Ask part.1 negated same) (Ask part.1 negated moved) part.0
 emitted_both (atomic a) states same moved =
     let part = emitted_both_part (emitted_both a) states in
@@ -231,8 +239,9 @@ emitted (group g a) states next =
     (push body.0 (Enter g body.1), length body.0)
 emitted (repeat lo hi greedy strict a) states next =
     emitted_repeat (is_unbounded hi) strict lo hi greedy (emitted a) (emitted_both a) states next
-emitted (ask negated a) states next =
-    let part = emitted_part (emitted a) states in
+emitted (ask negated back a) states next =
+    let body = emitted_part (emitted a) states in
+    let part = emitted_back back body.0 body.1 in
     (push part.0 (Ask part.1 negated next), length part.0)
 emitted (atomic a) states next =
     let part = emitted_part (emitted a) states in
@@ -278,7 +287,7 @@ weight (cat a b) = weight a + weight b
 weight (alt a b) = weight a + weight b + 3
 weight (group g a) = weight a + 2
 weight (repeat lo hi greedy strict a) = repeat_weight (is_unbounded hi) strict lo hi (weight a)
-weight (ask negated a) = weight a + 2
+weight (ask negated back a) = weight a + back + 2
 weight (atomic a) = weight a + 2
 weight (conditional c a b) = weight c + weight a + weight b + 4
 

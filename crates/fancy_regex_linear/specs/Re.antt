@@ -15,8 +15,8 @@ pub data Re : Type 0 where
   group : ℕ → Re → Re
   -- least and greatest count (the last value of `usize` is no bound), greedy, and whether each way of the body moves
   repeat : ℕ → ℕ → Bool → Bool → Re → Re
-  -- the body has a way from here or, negated, none; with the writes of its first way
-  ask : Bool → Re → Re
+  -- the body has a way from so many characters before or, negated, none; with the writes of its first way
+  ask : Bool → ℕ → Re → Re
   -- the first way of the body alone
   atomic : Re → Re
   -- from the first way of the condition the second; where the condition has no way, the third
@@ -41,7 +41,7 @@ node_shape (Node-F.Concat parts) = cats parts.items
 node_shape (Node-F.Alt parts) = alts parts.items
 node_shape (Node-F.Group number body) = group number body.value
 node_shape (Node-F.Repeat body q) = repeat q.lo q.hi q.greedy q.moves body.value
-node_shape (Node-F.Ask negated body) = ask negated body.value
+node_shape (Node-F.Ask negated back body) = ask negated back body.value
 node_shape (Node-F.Atomic body) = atomic body.value
 node_shape (Node-F.Conditional condition true_branch false_branch) = conditional condition.value true_branch.value false_branch.value
 

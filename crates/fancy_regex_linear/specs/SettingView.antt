@@ -1,5 +1,6 @@
 -- The text of a setting, as the linear engine reads it.
-use Rattle.std.specs.Prelude.{ℕ, Bool, false, not, List, ◌==◌, slice_get}
+use Rattle.std.specs.Prelude.{ℕ, Bool, false, not, List, ◌==◌, slice_get, option_map}
+use Rattle.std.specs.Char.{len_utf8}
 use Rattle.regex_hir.specs.Text.{is_some_and, char_at, char_before}
 use Rattle.fancy_regex_tree.specs.Tree.{Text}
 use Rattle.fancy_regex_tree.specs.declared.expr.Assertion.TheVariants as A
@@ -41,6 +42,7 @@ abbrev pub view_of : Setting → List (Text × Bool) → Bool → View
 view_of s cs far = record {
   has = λ leaf i. is_some_and (char_at s.text i) (leaf_matches s cs leaf);
   next = position_after s.text;
+  back = λ i. option_map len_utf8 (char_before s.text i);
   holds = test_holds s cs;
   longest = far;
   has_parts = false;

@@ -2,10 +2,11 @@
 use Rattle.std.specs.Prelude.{◌≡◌, ℕ, ◌+◌, ◌&&◌, true, Bool, List, [], ◌∷◌, ◌++◌, length, map, All}
 use Rattle.fancy_regex_tree.specs.Tree.{Tree, Trees, Text, trees, tree_of}
 use Rattle.fancy_regex_tree.specs.declared.expr.Expr.{Expr}
+use Rattle.fancy_regex_tree.specs.declared.expr.LookAround.{LookAround}
 use Rattle.fancy_regex_meaning.specs.Groups.{group_count, row_group_count}
 use Rattle.fancy_regex_class.specs.declared.class.CharClassMatcher.{CharClassMatcher}
 use Rattle.fancy_regex_linear.specs.Re.{Re}
-use Rattle.fancy_regex_linear.specs.Plain.{AreRegular, classes, row_classes, re_of}
+use Rattle.fancy_regex_linear.specs.Plain.{AreRegular, classes, row_classes, re_of, around}
 use Rattle.fancy_regex_linear.specs.Program.{IsSound, never_empty}
 use Rattle.fancy_regex_linear.specs.Easy.{HaveMatchers}
 use Rattle.fancy_regex_linear.specs.Refusals.{IsRead}
@@ -25,11 +26,20 @@ pub record Extends (unicode : Bool) (before after : List CharClassMatcher) (cs :
 abbrev pub AddsMatchers : Translator → Translator → List (Text × Bool) → Type 0
 AddsMatchers before after = Extends before.unicode before.matchers.items after.matchers.items
 
+-- the pattern that one tree becomes, over the bodies of these groups, with the numbers of the group that opens first in it and of its
+-- first class
+abbrev pub TreePattern : Type 0
+TreePattern = Bool → List Tree → ℕ → ℕ → Tree → Re
+
+-- a tree as a branch of a look-around
+abbrev pub around_tree : LookAround → TreePattern
+around_tree how unicode groups n k t = around unicode groups n k how (re_of unicode groups n k t) t
+
 -- the patterns of a row, with the numbers of the group that opens first in it and of its first class
-unfoldable pub row_list : Bool → List Tree → ℕ → ℕ → List Tree → List Re
-row_list unicode groups n k [] = []
-row_list unicode groups n k (t ∷ ts) =
-    re_of unicode groups n k t ∷ row_list unicode groups (n + group_count t) (k + length (classes t)) ts
+unfoldable pub row_list : TreePattern → Bool → List Tree → ℕ → ℕ → List Tree → List Re
+row_list one unicode groups n k [] = []
+row_list one unicode groups n k (t ∷ ts) =
+    one unicode groups n k t ∷ row_list one unicode groups (n + group_count t) (k + length (classes t)) ts
 
 -- each of the patterns consumes a character
 unfoldable pub all_move : List Re → Bool
@@ -41,11 +51,11 @@ abbrev pub AreSound : List Re → Type 0
 AreSound [] = Unit {0}
 AreSound (x ∷ xs) = IsSound x × AreSound xs
 
--- The translation of these trees gave these patterns, and numbered the groups and classes of the trees.
-pub record BuildsRow (before after : Translator) (ts : List Tree) (xs : List Re) : Type 0 where
+-- The translation of these trees gave these patterns, each that of one tree, and numbered the groups and classes of the trees.
+pub record BuildsRow (one : TreePattern) (before after : Translator) (ts : List Tree) (xs : List Re) : Type 0 where
   pub unicode : after.unicode ≡ before.unicode
   pub matchers : Extends before.unicode before.matchers.items after.matchers.items (row_classes (trees ts))
   pub sound : AreSound xs
   pub groups : AreRegular (trees ts) → after.next_group ≡ before.next_group + row_group_count (trees ts)
   pub patterns : AreRegular (trees ts) → (groups : List Tree)
-      → xs ≡ row_list before.unicode groups before.next_group (length before.matchers.items) ts
+      → xs ≡ row_list one before.unicode groups before.next_group (length before.matchers.items) ts

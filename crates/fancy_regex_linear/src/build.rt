@@ -9,7 +9,7 @@ ghost use Rattle.fancy_regex_linear.specs.Re as re;
 ghost use Rattle.fancy_regex_states.specs.declared.atom.Leaf.TheVariants as leaf;
 ghost use Rattle.fancy_regex_meaning.specs.Sizes.{may_be_empty};
 ghost use Rattle.fancy_regex_linear.specs.Program.{IsSound, never_empty};
-ghost use Rattle.fancy_regex_linear.specs.Plain.{test_of as test_of_assertion, ends_by_crlf as has_crlf_end, last_newline as newline_before_end, newline_re, read_each, served, text_end_re, IsPlain, ArePlain, IsRegular, AreRegular, IsOneChar, has_no_iteration, unless, looked, look_test, asking, char_leaf, char_classes, classes, row_classes, re_of, row_of, branches_of};
+ghost use Rattle.fancy_regex_linear.specs.Plain.{test_of as test_of_assertion, ends_by_crlf as has_crlf_end, last_newline as newline_before_end, newline_re, read_each, served, text_end_re, IsPlain, ArePlain, IsRegular, AreRegular, IsOneChar, has_no_iteration, unless, look_test, joined, is_negated_look, is_look_behind, around, each_around, char_leaf, char_classes, classes, row_classes, re_of, row_of, branches_of};
 ghost use Rattle.fancy_regex_linear.specs.Translation.{all_trees, AddsMatchers};
 ghost use Rattle.fancy_regex_linear.specs.Refusals.{IsRead, IsClassCause};
 ghost use Rattle.fancy_regex_info.specs.declared.error.CompileError.TheVariants as errors;
@@ -17,7 +17,7 @@ ghost use Rattle.fancy_regex_class.specs.Matchers.{IsMatcherOf};
 
 use crate::node::{Node, Quantifier};
 use fancy_regex_class::{CharClassMatcher, ClassError, fold};
-use fancy_regex_info::{CompileError, groups_of};
+use fancy_regex_info::{CompileError, groups_of, size_in};
 use fancy_regex_states::{Leaf, Test};
 use fancy_regex_tree::{Assertion, BacktrackingControlVerb, Expr, LookAround};
 use std::alloc::{AllocError, Global};
@@ -138,6 +138,7 @@ fn text_end(alloc: Global, crlf: bool) -> Result<Node, AllocError>
     let row = boxed(alloc, Node::Concat(parts))?;
     Ok(Node::Ask {
         negated: false,
+        back: 0,
         body: row,
     })
 }
@@ -239,20 +240,34 @@ fn look_node(look: LookAround, leaf: Option<Leaf>) -> Node
     })
 }
 
-/// A look-around with this body; a look-behind is left out.
-fn asking_node(look: LookAround, body: Box<Node>) -> Node
-    ensures { shape result ≡ asking look (shape body.value) }
+/// Whether the look-around is negated.
+fn is_negated(look: LookAround) -> bool
+    ensures { result ≡ is_negated_look look }
 {
     match look {
-        LookAround::LookAhead => Node::Ask {
-            negated: false,
-            body,
-        },
-        LookAround::LookAheadNeg => Node::Ask {
-            negated: true,
-            body,
-        },
-        LookAround::LookBehind | LookAround::LookBehindNeg => Node::Empty,
+        LookAround::LookAhead | LookAround::LookBehind => false,
+        LookAround::LookAheadNeg | LookAround::LookBehindNeg => true,
+    }
+}
+
+/// Whether the look-around is a look-behind.
+fn is_behind(look: LookAround) -> bool
+    ensures { result ≡ is_look_behind look }
+{
+    match look {
+        LookAround::LookAhead | LookAround::LookAheadNeg => false,
+        LookAround::LookBehind | LookAround::LookBehindNeg => true,
+    }
+}
+
+/// All of these nodes in a row where `negated`, else one of them.
+fn joined_node(negated: bool, parts: Vec<Node>) -> Node
+    ensures { shape result ≡ joined negated (shapes parts.items) }
+{
+    if negated {
+        Node::Concat(parts)
+    } else {
+        Node::Alt(parts)
     }
 }
 
@@ -379,16 +394,83 @@ impl Translator {
         ensures sound { IfOk result (λ translated. IsSound (shape translated.node)) }
         ensures refused { IfErr result (IsClassCause self.old.unicode (classes (tree_of child.now))) }
         ensures shape { IfOk result (λ translated. IsRegular (look_around (tree_of child.now) look) → (groups : List Tree)
-            → shape translated.node ≡ looked look (char_leaf self.old.unicode (length self.old.matchers.items) (tree_of child.now))
-            (re_of self.old.unicode groups self.old.next_group (length self.old.matchers.items) (tree_of child.now))) }
+            → shape translated.node ≡ around self.old.unicode groups self.old.next_group (length self.old.matchers.items) look
+            (re_of self.old.unicode groups self.old.next_group (length self.old.matchers.items) (tree_of child.now)) (tree_of child.now)) }
     {
         if is_one_char(child) {
             let leaf = self.leaf(child)?;
             return Ok(Translated::still(look_node(look, leaf)));
         }
+        let negated = is_negated(look);
+        if !is_behind(look) {
+            return self.asking(child, negated, 0);
+        }
+        let size = size_in(child, &[]);
+        if size.always {
+            return self.asking(child, negated, size.least);
+        }
+        match child {
+            Expr::Alt(children) => self.behind_branches(children, look),
+            _ => self.asking(child, negated, size.least),
+        }
+    }
+
+    /// Translates a look-around to a part that is asked so many characters before. The error is that of a class.
+    #[cycle(build)]
+    fn asking(
+        &mut self,
+        child: &Expr,
+        negated: bool,
+        back: usize,
+    ) -> Result<Translated, CompileError>
+        ensures unicode { self.new.unicode ≡ self.old.unicode }
+        ensures groups { IfOk result (λ _. IsRegular (tree_of child.now)
+            → self.new.next_group ≡ self.old.next_group + group_count (tree_of child.now)) }
+        ensures matchers { IfOk result (λ _. AddsMatchers self.old self.new (classes (tree_of child.now))) }
+        ensures moves { IfOk result (λ translated. translated.moves ≡ false) }
+        ensures still { IfOk result (λ translated. never_empty (shape translated.node) ≡ false) }
+        ensures sound { IfOk result (λ translated. IsSound (shape translated.node)) }
+        ensures refused { IfErr result (IsClassCause self.old.unicode (classes (tree_of child.now))) }
+        ensures shape { IfOk result (λ translated. IsRegular (tree_of child.now) → (groups : List Tree) → shape translated.node
+            ≡ re.ask negated back (re_of self.old.unicode groups self.old.next_group (length self.old.matchers.items) (tree_of child.now))) }
+    {
         let translated = self.translated(child)?;
-        let body = boxed(self.alloc, translated.node)?;
-        Ok(Translated::still(asking_node(look, body)))
+        Ok(Translated {
+            node: Node::Ask {
+                negated,
+                back,
+                body: boxed(self.alloc, translated.node)?,
+            },
+            moves: false,
+        })
+    }
+
+    /// Translates the branches of a look-behind, each to a look-behind of its own: one of them has to have a way or, where it is negated,
+    /// none. The error is that of a class.
+    #[cycle(build)]
+    fn behind_branches(
+        &mut self,
+        children: &[Expr],
+        look: LookAround,
+    ) -> Result<Translated, CompileError>
+        ensures unicode { self.new.unicode ≡ self.old.unicode }
+        ensures groups { IfOk result (λ _. AreRegular (all_trees children.now)
+            → self.new.next_group ≡ self.old.next_group + row_group_count (all_trees children.now)) }
+        ensures matchers { IfOk result (λ _. AddsMatchers self.old self.new (row_classes (all_trees children.now))) }
+        ensures moves { IfOk result (λ translated. translated.moves ≡ false) }
+        ensures still { IfOk result (λ translated. never_empty (shape translated.node) ≡ false) }
+        ensures sound { IfOk result (λ translated. IsSound (shape translated.node)) }
+        ensures refused { IfErr result (IsClassCause self.old.unicode (row_classes (all_trees children.now))) }
+        ensures shape { IfOk result (λ translated. AreRegular (all_trees children.now) → (groups : List Tree) → shape translated.node
+            ≡ joined (is_negated_look look) (each_around self.old.unicode groups self.old.next_group (length self.old.matchers.items) look
+            (all_trees children.now))) }
+    {
+        let mut parts = Vec::new(self.alloc);
+        for i in 0..children.len() {
+            let part = self.look_around(&children[i], look)?;
+            add(&mut parts, part.node)?;
+        }
+        Ok(Translated::still(joined_node(is_negated(look), parts)))
     }
 
     /// Translates an atomic group. The error is that of a class.
@@ -703,12 +785,7 @@ pub fn is_regular(expr: &Expr) -> bool
         } => is_regular(condition) && is_regular(true_branch) && is_regular(false_branch),
         Expr::DefineGroup { .. } => true,
         Expr::Repeat { child, .. } => is_regular(child),
-        Expr::LookAround(child, LookAround::LookAhead | LookAround::LookAheadNeg) => {
-            is_regular(child)
-        }
-        Expr::LookAround(child, LookAround::LookBehind | LookAround::LookBehindNeg) => {
-            is_one_char(child)
-        }
+        Expr::LookAround(child, _) => is_regular(child),
         _ => false,
     }
 }

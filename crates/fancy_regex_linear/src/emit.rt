@@ -2,7 +2,7 @@
 
 ghost use Rattle.std.specs.Prelude.{◌≡◌, ◌≤◌, IfOk, length, vec_len};
 ghost use Rattle.fancy_regex_linear.specs.Re.{shape, shapes, cats, alts};
-ghost use Rattle.fancy_regex_linear.specs.Program.{emitted, emitted_part, emitted_both, emitted_repeat, emitted_times, emitted_upto, emitted_star, emitted_many};
+ghost use Rattle.fancy_regex_linear.specs.Program.{emitted, emitted_back, emitted_part, emitted_both, emitted_repeat, emitted_times, emitted_upto, emitted_star, emitted_many};
 ghost use Rattle.fancy_regex_linear.specs.Meaning.{is_unbounded};
 
 use crate::emit_both::emit_both;
@@ -42,8 +42,13 @@ pub fn emit(node: &Node, states: &mut Vec<State>, next: usize) -> Result<usize, 
             )
         }
         Node::Repeat { body, quantifier } => emit_repeat(body, *quantifier, states, next),
-        Node::Ask { negated, body } => {
-            let part = emit_part(body, states)?;
+        Node::Ask {
+            negated,
+            back,
+            body,
+        } => {
+            let entry = emit_part(body, states)?;
+            let part = emit_back(*back, states, entry)?;
             add(
                 states,
                 State::Ask {
@@ -97,6 +102,19 @@ fn emit_part(node: &Node, states: &mut Vec<State>) -> Result<usize, AllocError>
 {
     let end = add(states, State::Match)?;
     emit(node, states, end)
+}
+
+/// Adds `count` states that step back over a character each and then continue at `next`; returns the first of them.
+#[tactic(auto, unfolding(crate::specs::Program::emitted_back))]
+pub fn emit_back(count: usize, states: &mut Vec<State>, next: usize) -> Result<usize, AllocError>
+    ensures longer { IfOk result (λ _. vec_len states.old ≤ vec_len states.new) }
+    ensures made { IfOk result (λ n. emitted_back count states.old.items next ≡ (states.new.items, n)) }
+{
+    let mut entry = next;
+    'steps: for _step in 0..count {
+        entry = add(states, State::Back { next: entry })?;
+    }
+    Ok(entry)
 }
 
 /// Adds the states of a concatenation, the last child first.

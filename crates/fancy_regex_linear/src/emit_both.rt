@@ -6,6 +6,7 @@ ghost use Rattle.fancy_regex_linear.specs.Re.{shape, shapes, cats, alts};
 ghost use Rattle.fancy_regex_linear.specs.Program.{emitted_both, emitted_both_part, emitted_both_asking, emitted_both_repeat, emitted_both_times, emitted_both_upto, emitted_both_star, emitted_both_many, emitted_both_group};
 ghost use Rattle.fancy_regex_linear.specs.Meaning.{is_unbounded};
 
+use crate::emit::emit_back;
 use crate::node::{Node, Quantifier};
 use crate::state::{add, add_both, add_choice, make_head};
 use fancy_regex_states::State;
@@ -57,8 +58,13 @@ pub fn emit_both(
             same,
             moved,
         ),
-        Node::Ask { negated, body } => {
-            let part = emit_part_both(body, states)?;
+        Node::Ask {
+            negated,
+            back,
+            body,
+        } => {
+            let entry = emit_part_both(body, states)?;
+            let part = emit_back(*back, states, entry)?;
             add_both(
                 states,
                 State::Ask {

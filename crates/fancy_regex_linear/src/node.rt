@@ -39,9 +39,11 @@ pub enum Node {
         body: Box<Node>,
         quantifier: Quantifier,
     },
-    /// A look-ahead: whether the body matches here or, where `negated`, does not.
+    /// A look-around: whether the body matches from so many characters before or, where `negated`, does not. A look-ahead steps back over
+    /// none.
     Ask {
         negated: bool,
+        back: usize,
         body: Box<Node>,
     },
     /// The first match of the body alone.

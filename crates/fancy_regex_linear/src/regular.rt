@@ -15,8 +15,8 @@ use std::alloc::Global;
 /// The greatest weight of a pattern that becomes states with parts.
 const GREATEST_WEIGHT: u64 = 4_000;
 
-/// The states of a pattern that may ask parts: the bodies of its look-aheads and atomic groups, and the conditions of its conditionals.
-/// The states of parts are among them.
+/// The states of a pattern that may ask parts: the bodies of its look-arounds and atomic groups, and the conditions of its
+/// conditionals. The states of parts are among them.
 #[derive(Drop)]
 pub struct RegularStates {
     /// The states. State 0 is the pattern's final state; each part has one of its own.
@@ -38,8 +38,7 @@ impl RegularStates {
     ghost use Rattle.fancy_regex_info.specs.Views.{pattern_in};
 
     /// Whether an analyzed pattern becomes such states: its weight is at most 4,000, and it has no more than characters, `\R`, `(*FAIL)`,
-    /// assertions, look-behinds for one character, definitions, and look-aheads, groups, atomic groups, conditionals, alternations and
-    /// repeats of these.
+    /// assertions, definitions, and look-arounds, groups, atomic groups, conditionals, alternations and repeats of these.
     pub fn are_made_for(info: &Info<'_>) -> bool
         ensures regular { result ≡ true → IsRegular (tree_of (out-Info info.now).expr.now) }
         ensures exact { (explicit : Bool) (t : Tree) → info_of info.now ≡ analysis explicit t

@@ -7,12 +7,11 @@ use Rattle.std.proofs.Math.Bridge.{le_prop}
 use Rattle.fancy_regex_tree.specs.Tree.{Tree, Trees, tree_of, empty, any, assertion, general_newline, literal, concat, alt, group, look_around, repeat, delegate, atomic_group, conditional, verb, define_group, no_trees, more_trees}
 use Rattle.fancy_regex_tree.specs.declared.expr.BacktrackingControlVerb.{BacktrackingControlVerb}
 use Rattle.fancy_regex_tree.specs.declared.expr.BacktrackingControlVerb.TheVariants.{Fail}
-use Rattle.fancy_regex_tree.specs.declared.expr.LookAround.TheVariants as L
 use Rattle.fancy_regex_tree.specs.declared.expr_tree.ExprTree.{ExprTree}
 use Rattle.fancy_regex_meaning.specs.Groups.{Pattern, pattern_of}
 use Rattle.fancy_regex_class.specs.declared.input.RunInput.{RunInput}
 use Rattle.fancy_regex_input.specs.SearchInputs.{effective_start, run_input_of}
-use Rattle.fancy_regex_linear.specs.Plain.{IsOneChar, IsFail, IsRegular, AreRegular}
+use Rattle.fancy_regex_linear.specs.Plain.{IsFail, IsRegular, AreRegular}
 use Rattle.fancy_regex_regular.specs.Supported.{IsSupported}
 use Rattle.fancy_regex_meta.specs.EasyPatterns.{is_easy_tree, uses_easy, pattern_uses_easy}
 use Rattle.fancy_regex_meta.specs.LinearPatterns.{IsLinear, PatternIsLinear, is_linear_strategy}
@@ -27,12 +26,6 @@ use Rattle.fancy_regex_meta.specs.declared.strategy.Strategy.{Strategy}
 use Rattle.fancy_regex_meta.specs.declared.strategy.Strategy.TheVariants.{Easy, Linear, Program, Regular}
 
 -- that a tree is regular is so in one way
-one_char_prop : (t : Tree) → IsProp (IsOneChar t)
-one_char_prop (any newline crlf) = Unit-prop
-one_char_prop (literal val casei) = Unit-prop
-one_char_prop (delegate class casei) = Unit-prop
-one_char_prop _ = ⊥_prop
-
 fail_prop : (v : BacktrackingControlVerb) → IsProp (IsFail v)
 fail_prop Fail = Unit-prop
 fail_prop _ = ⊥_prop
@@ -48,10 +41,7 @@ mutual
   regular_prop (concat ts) = all_prop ts
   regular_prop (alt ts) = ×_prop (Π_prop λ e. ⊥_prop) (all_prop ts)
   regular_prop (group t) = regular_prop t
-  regular_prop (look_around t L.LookAhead) = regular_prop t
-  regular_prop (look_around t L.LookAheadNeg) = regular_prop t
-  regular_prop (look_around t L.LookBehind) = one_char_prop t
-  regular_prop (look_around t L.LookBehindNeg) = one_char_prop t
+  regular_prop (look_around t how) = regular_prop t
   regular_prop (atomic_group t) = regular_prop t
   regular_prop (conditional c a b) = ×_prop (regular_prop c) (×_prop (regular_prop a) (regular_prop b))
   regular_prop (define_group t) = Unit-prop

@@ -23,6 +23,7 @@ mode_most (Answer end) = omega arith
 pub step_length : (state : State) (at : ℕ) (frames : List Frame) → length (step_frames state at frames) ≤ length frames + 1
 step_length (S.Read leaf next) at frames = omega arith
 step_length (S.Look check next) at frames = omega arith
+step_length (S.Back next) at frames = omega arith
 step_length (S.Split first second) at frames = omega arith
 step_length (S.Ask part negated next) at frames = omega arith
 step_length (S.Enter g next) at frames = omega arith
@@ -50,6 +51,8 @@ module _ (table : PartTable) where
   step_due matchers rules stop q (S.Look check next) at before after frames =
       task_if (λ task. task_due table task + pending table frames ≤ due table next + pending table frames)
       (passes matchers rules check before after) (Visit next at) (Answer None) (λ yes. omega arith) (λ no. omega arith)
+  step_due matchers rules stop q (S.Back next) at None after frames = omega arith
+  step_due matchers rules stop q (S.Back next) at (Some c) after frames = omega arith
   step_due matchers rules stop q (S.Split first second) at before after frames = omega (arith, pending_cons (Branch second at) frames)
   step_due matchers rules stop q (S.Ask part negated next) at before after frames = omega (arith, pending_cons (Ask negated next at) frames)
   step_due matchers rules stop q (S.Enter g next) at before after frames = omega arith

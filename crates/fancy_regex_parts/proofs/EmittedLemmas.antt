@@ -1,13 +1,14 @@
 -- The states of a pattern that do what an attempt says have ways: those of the attempt.
-use Rattle.std.proofs.Common.{◌≡◌, ◌∙◌, ℕ, ◌+◌, ◌*◌, ◌<◌, ◌≤◌, ◌⊎◌, Bool, true, false, ◌&&◌, List, length, Option, Some, None, refl, sym, ap, subst, inl, inr, arith, if◌then◌else◌, true≢false, nat_le, lt-ltb, le-ltb, le-leb, ne_eqb}
+use Rattle.std.proofs.Common.{◌≡◌, ◌∙◌, ℕ, ◌+◌, ◌-◌, ◌*◌, ◌<◌, ◌≤◌, ◌⊎◌, Bool, true, false, ◌&&◌, List, length, Option, Some, None, refl, sym, ap, subst, inl, inr, arith, if◌then◌else◌, true≢false, nat_le, lt-ltb, le-ltb, le-leb, ne_eqb}
 use Rattle.std.proofs.lemmas.Bool.{and_from, and_left, cases_eq, cases_lt, lt-leb}
+use Rattle.std.proofs.lemmas.Option.{none-some, same_Some}
 use Rattle.std.proofs.lemmas.Str.{len_utf8_bounds}
 use Rattle.std.specs.Char.{len_utf8}
 use Rattle.std.specs.Prelude.{IsCharBoundary, nat_eq, nat_lt, option_and_then, option_map, unwrap_or}
 use Rattle.regex_hir.specs.Text.{is_some_and, char_at}
 use Rattle.regex_hir.proofs.TextLemmas.{char_at_fits}
 use Rattle.fancy_regex_class.specs.declared.class.CharClassMatcher.{CharClassMatcher}
-use Rattle.fancy_regex_states.specs.Attempts.{View, Trace, AttemptResult, Continuation, better_trace, guard, write, after_writes, accept, accept_by, failed, asked_answer, passed_answer, passed_depth, pick, reads, visit, Agrees, ShowsAll}
+use Rattle.fancy_regex_states.specs.Attempts.{View, Trace, AttemptResult, Continuation, better_trace, guard, write, after_writes, accept, accept_by, failed, asked_answer, passed_answer, passed_depth, resume, stepped, reads, visit, Agrees, ShowsAll}
 use Rattle.fancy_regex_states.specs.CharTests.{leaf_matches_char}
 use Rattle.fancy_regex_states.specs.First.{state_at}
 use Rattle.fancy_regex_states.specs.declared.atom.Leaf.{Leaf}
@@ -15,7 +16,7 @@ use Rattle.fancy_regex_states.specs.declared.rules.Rules.{Rules}
 use Rattle.fancy_regex_states.specs.declared.state.State.{State}
 use Rattle.fancy_regex_states.specs.declared.state.State.TheVariants.{Split, Enter, Leave, Ask, Atomic, Match}
 use Rattle.fancy_regex_states.specs.declared.state.State.TheVariants as S
-use Rattle.fancy_regex_parts.specs.Ways.{Explains, Falls, first_way, answer_end, ways_of, text_view, or_else, if_asked, state_after, match_end}
+use Rattle.fancy_regex_parts.specs.Ways.{Explains, Falls, first_way, answer_end, ways_of, text_view, or_else, if_asked, state_after, place_after, match_end}
 
 -- where a trace ends
 abbrev ends_at : Option Trace → Option ℕ
@@ -31,6 +32,15 @@ guarded false false r e = refl
 guarded_falls : (b c : Bool) (r : AttemptResult) → b ≡ c → c ≡ true → r.depth < (guard b r).depth
 guarded_falls true c r e holds = omega arith
 guarded_falls false c r e holds = absurd (true≢false (sym (e ∙ holds)))
+
+-- after a step back
+stepped_is : (o : Option ℕ) (i : ℕ) (k : Continuation) → answer_end (stepped o i k) ≡ option_and_then (λ bytes. answer_end (k (i - bytes))) o
+stepped_is None i k = refl
+stepped_is (Some bytes) i k = refl
+
+stepped_falls : (o : Option ℕ) (i bytes : ℕ) (k : Continuation) → o ≡ Some bytes → (k (i - bytes)).depth < (stepped o i k).depth
+stepped_falls None i bytes k is = absurd (none-some bytes is)
+stepped_falls (Some other) i bytes k is = let same : other ≡ bytes = same_Some other bytes is in rw same (omega arith)
 
 -- of two branches
 chosen : (longest : Bool) (a b : Option Trace) → longest ≡ false → ends_at (better_trace longest a b) ≡ or_else (ends_at a) (ends_at b)
@@ -57,25 +67,25 @@ asked_is true (Some t) rest = refl
 
 -- after an atomic group
 module _ (go : ℕ → Continuation) (i same moved : ℕ) where
-  one_go : (b : Bool) (e : ℕ) → (if b then go moved e else go same e) ≡ go (if b then moved else same) e
+  one_go : (b : Bool) (e : ℕ) → (if b then go moved e else go same i) ≡ go (if b then moved else same) (if b then e else i)
   one_go true e = refl
   one_go false e = refl
 
-  picked : (e : ℕ) → pick i (go same) (go moved) e ≡ go (state_after i same moved e) e
-  unfolding pick
+  picked : (e : ℕ) → resume i (go same) (go moved) e ≡ go (state_after i same moved e) (place_after i e)
+  unfolding resume
   picked e = one_go (nat_lt i e) e
 
   passed_is : (part : Option Trace)
-      → ends_at (passed_answer part (pick i (go same) (go moved))) ≡ option_and_then (λ e. answer_end (go (state_after i same moved e) e)) (ends_at part)
+      → ends_at (passed_answer part (resume i (go same) (go moved))) ≡ option_and_then (λ e. answer_end (go (state_after i same moved e) (place_after i e))) (ends_at part)
   passed_is None = refl
   passed_is (Some t) = prefixed t.writes _ ∙ ap answer_end (picked t.end)
 
   passed_falls : (part : Option Trace) (e : ℕ) → ends_at part ≡ Some e
-      → (go (state_after i same moved e) e).depth ≡ passed_depth part (pick i (go same) (go moved))
+      → (go (state_after i same moved e) (place_after i e)).depth ≡ passed_depth part (resume i (go same) (go moved))
   passed_falls None e is = cc
   passed_falls (Some t) e is =
       let end_is : t.end ≡ e = cc in
-      subst (λ (j : ℕ). (go (state_after i same moved j) j).depth ≡ (pick i (go same) (go moved) t.end).depth) end_is (sym (ap (λ r. r.depth) (picked t.end)))
+      subst (λ (j : ℕ). (go (state_after i same moved j) (place_after i j)).depth ≡ (resume i (go same) (go moved) t.end).depth) end_is (sym (ap (λ r. r.depth) (picked t.end)))
 
 and_true : (a b : Bool) → b ≡ true → (a && b) ≡ a
 and_true true b e = e
@@ -122,6 +132,7 @@ module _ (matchers : List CharClassMatcher) (rules : Rules) (stop : ℕ) (text :
       → answer_end (visit view (length text) go state i) ≡ first_way (text_view view) (ways_of go) stop q state i
   visit_end q (S.Read leaf next) i other b = guarded _ _ (go next (view.next i)) (reads_is leaf i b)
   visit_end q (S.Look check next) i other b = guarded _ _ (go next i) refl
+  visit_end q (S.Back next) i other b = stepped_is (view.back i) i (go next)
   visit_end q (Split one two) i other b = chosen view.longest (go one i).answer (go two i).answer first
   visit_end q (Enter g next) i other b = written (2 * g) i (go next i).answer
   visit_end q (Leave g next) i other b = written (2 * g + 1) i (go next i).answer
@@ -134,6 +145,7 @@ module _ (matchers : List CharClassMatcher) (rules : Rules) (stop : ℕ) (text :
       → Falls (text_view view) (ways_of go) state i (visit view (length text) go state i).depth
   visit_falls (S.Read leaf next) i b = guarded_falls _ _ (go next (view.next i)) (reads_is leaf i b)
   visit_falls (S.Look check next) i b = guarded_falls _ _ (go next i) refl
+  visit_falls (S.Back next) i b = λ bytes is. stepped_falls (view.back i) i bytes (go next) is
   visit_falls (Split one two) i b = (omega arith, omega arith)
   visit_falls (Enter g next) i b = omega arith
   visit_falls (Leave g next) i b = omega arith

@@ -1,6 +1,7 @@
 pub mod RecallLemmas
 pub mod WeightLemmas
 pub mod MarkLemmas
+pub mod PlaceLemmas
 pub mod StackLemmas
 pub mod TrackLemmas
 pub mod CostLemmas

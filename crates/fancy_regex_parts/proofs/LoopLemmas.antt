@@ -14,6 +14,7 @@ use Rattle.fancy_regex_parts.specs.declared.frame.Task.{Task}
 use Rattle.fancy_regex_parts.specs.declared.frame.Task.TheVariants.{Visit, Answer}
 use Rattle.fancy_regex_parts.specs.declared.recall.Recall.{Recall}
 use Rattle.fancy_regex_parts.specs.declared.step.PartContext.{PartContext}
+use Rattle.fancy_regex_parts.specs.declared.table.PartTable.{PartTable}
 use Rattle.fancy_regex_parts.proofs.WeightLemmas.{known_most}
 use Rattle.fancy_regex_parts.proofs.StackLemmas.{ends_stored}
 use Rattle.fancy_regex_parts.proofs.CostLemmas.{pending_cons, resume_due}
@@ -44,11 +45,11 @@ kept (Ask negated next i) (Some e) is = kept_same is
 kept (Atomic i same moved) None is = kept_same is
 kept (Atomic i same moved) (Some e) is = kept_same is
 
-module _ (text : List ℕ) (count base : ℕ) (old new : Recall) where
+module _ (table : PartTable) (text : List ℕ) (base : ℕ) (old new : Recall) where
   ends_on : new ≡ old → EndsWithin text base old → EndsWithin text base new
   ends_on e ends = subst (EndsWithin text base) (sym e) ends
 
-  ends_kept : (f : Frame) (end : Option ℕ) → IsResumed f end old new → IsTaskWithin text count base (Answer end) → EndsWithin text base old
+  ends_kept : (f : Frame) (end : Option ℕ) → IsResumed f end old new → IsTaskWithin table text base (Answer end) → EndsWithin text base old
       → EndsWithin text base new
   ends_kept (Branch q i) None is place ends = ends_on is ends
   ends_kept (Branch q i) (Some e) is place ends = ends_on is ends
@@ -61,11 +62,11 @@ module _ (text : List ℕ) (count base : ℕ) (old new : Recall) where
 
 module _ (context : PartContext) (text new_text : Counted) (first old new : Recall) (left : ℕ) where
   -- the looks that are paid for stay so where an answer comes to a frame
-  pub paid_resumed : (count : ℕ) (f : Frame) (rest : List Frame) (end : Option ℕ) → IsResumed f end old new
-      → IsTaskWithin (looked_text text) count first.base (Answer end)
+  pub paid_resumed : (f : Frame) (rest : List Frame) (end : Option ℕ) → IsResumed f end old new
+      → IsTaskWithin context.table.now (looked_text text) first.base (Answer end)
       → IsPaid context text new_text first old left (task_due context.table.now (Answer end) + pending context.table.now (f ∷ rest))
       → IsPaid context text new_text first new left (task_due context.table.now (resume_task f end) + pending context.table.now rest)
-  paid_resumed count f rest end is place paid =
+  paid_resumed f rest end is place paid =
       let keeps = kept f end is in
       let base_is : new.base ≡ first.base = keeps.base ∙ paid.base in
       let n = keeps.weight (cell_cost context.table.now) in
@@ -75,7 +76,7 @@ module _ (context : PartContext) (text new_text : Counted) (first old new : Reca
           width = keeps.width ∙ paid.memory.width;
           rows = let r = keeps.rows in let b = keeps.base in omega (arith, r, b, paid.memory.rows);
           ends = subst (λ (b : ℕ). EndsWithin (looked_text text) b new) (sym base_is)
-              (ends_kept (looked_text text) count first.base old new f end is place (subst (λ (b : ℕ). EndsWithin (looked_text text) b old) paid.base paid.memory.ends));
+              (ends_kept context.table.now (looked_text text) first.base old new f end is place (subst (λ (b : ℕ). EndsWithin (looked_text text) b old) paid.base paid.memory.ends));
         };
         counted = rw n (omega (arith, paid.counted, resume_due context.table.now f end, pending_cons context.table.now f rest));
         looks = paid.looks;

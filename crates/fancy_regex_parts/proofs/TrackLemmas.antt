@@ -2,11 +2,12 @@
 use Rattle.std.proofs.Common.{◌≡◌, ℕ, ◌+◌, ◌-◌, ◌*◌, ◌/◌, ◌%◌, ◌<◌, ◌≤◌, ◌∙◌, Bool, true, false, List, [], ◌∷◌, length, Option, Some, None, get_or, refl, sym, ap, ap₂, subst, inl, inr, arith, if◌then◌else◌, true≢false}
 use Rattle.std.proofs.lemmas.Bool.{cases_eq}
 use Rattle.std.specs.Char.{len_utf8}
+use Rattle.std.specs.Prelude.{option_and_then}
 use Rattle.fancy_regex_class.specs.declared.class.CharClassMatcher.{CharClassMatcher}
 use Rattle.fancy_regex_states.specs.Attempts.{View, Shows}
 use Rattle.fancy_regex_states.specs.CharTests.{leaf_matches_char, passes}
 use Rattle.fancy_regex_states.specs.declared.rules.Rules.{Rules}
-use Rattle.fancy_regex_parts.specs.Ways.{Ways, first_way, Falls, state_after}
+use Rattle.fancy_regex_parts.specs.Ways.{Ways, first_way, Falls, state_after, place_after}
 use Rattle.fancy_regex_parts.specs.Recall.{cell, IsSame, IsOpened, IsStored}
 use Rattle.fancy_regex_parts.specs.Frames.{step_frames, step_task, resume_task, IsOpen, cell_end, cell_depth, IsBelowOpen, Resumes, task_end, IsTaskBelow, Remembers, Tracks}
 use Rattle.fancy_regex_parts.specs.Layers.{IsResumed}
@@ -30,6 +31,7 @@ end_if X false false x e h = (λ yes. absurd (true≢false (sym yes)), λ _. h)
 open_stepped : (state : State) (at k : ℕ) (frames : List Frame) → IsOpen k frames → IsOpen k (step_frames state at frames)
 open_stepped (S.Read leaf next) at k frames h = h
 open_stepped (S.Look check next) at k frames h = h
+open_stepped (S.Back next) at k frames h = h
 open_stepped (S.Split first second) at k frames h = h
 open_stepped (S.Ask part negated next) at k frames h = h
 open_stepped (S.Enter g next) at k frames h = h
@@ -82,6 +84,12 @@ module _ (ways : Ways) (heads : List ℕ) (base : ℕ) where
       (passes matchers rules check before after) (Visit next at) (Answer None)
       (λ yes. (on.0 yes, below _ (falls (shows.holds check ∙ yes))))
       (λ no. (on.1 no, tt))
+  step_resumes view matchers rules stop q (S.Back next) at d None after frames goal shows falls below h =
+      (subst (λ (o : Option ℕ). Resumes ways heads base frames (option_and_then (λ bytes. ways.end next (at - bytes)) o) goal) shows.back h, tt)
+  step_resumes view matchers rules stop q (S.Back next) at d (Some c) after frames goal shows falls below h = (
+    subst (λ (o : Option ℕ). Resumes ways heads base frames (option_and_then (λ bytes. ways.end next (at - bytes)) o) goal) shows.back h,
+    below _ (falls (len_utf8 c) shows.back),
+  )
   step_resumes view matchers rules stop q (S.Split first second) at d before after frames goal shows falls below h =
       ((below _ falls.1, h), below _ falls.0)
   step_resumes view matchers rules stop q (S.Ask part negated next) at d before after frames goal shows falls below h =
@@ -180,7 +188,7 @@ module _ (ways : Ways) (heads : List ℕ) (base : ℕ) where
       subst (λ (r : Recall). Tracks ways heads base r (Answer None) rest goal) (sym is)
       (record { resumes = t.resumes.1; below = tt; remembers = record { fails = t.remembers.fails; ends = t.remembers.ends } })
   Tracks-resume {old} {new} (Atomic i same moved) rest (Some e) goal is t =
-      subst (λ (r : Recall). Tracks ways heads base r (Visit (state_after i same moved e) e) rest goal) (sym is)
+      subst (λ (r : Recall). Tracks ways heads base r (Visit (state_after i same moved e) (place_after i e)) rest goal) (sym is)
       (record { resumes = t.resumes.1; below = t.resumes.0 e refl; remembers = record { fails = t.remembers.fails; ends = t.remembers.ends } })
 
   -- a pair of which it is known that there is no way

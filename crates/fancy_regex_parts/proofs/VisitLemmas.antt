@@ -1,5 +1,5 @@
 -- What the visit of a pair leaves.
-use Rattle.std.proofs.Common.{◌≡◌, ℕ, ◌+◌, ◌-◌, ◌*◌, ◌<◌, ◌≤◌, ◌∙◌, List, ◌∷◌, length, Option, Some, None, refl, sym, ap, subst, arith, max}
+use Rattle.std.proofs.Common.{◌≡◌, ℕ, ◌+◌, ◌-◌, ◌*◌, ◌^◌, ◌<◌, ◌≤◌, ◌∙◌, List, ◌∷◌, length, Option, Some, None, refl, sym, ap, subst, arith, max}
 use Rattle.std.specs.Prelude.{IfSome, IsCharBoundary}
 use Rattle.std.specs.Char.{len_utf8}
 use Rattle.regex_hir.specs.Text.{char_at, char_before}
@@ -7,9 +7,9 @@ use Rattle.fancy_regex_class.specs.Looks.{looked_text, look_count}
 use Rattle.fancy_regex_class.specs.declared.counted.Counted.{Counted}
 use Rattle.fancy_regex_states.specs.Attempts.{NamesBelow}
 use Rattle.fancy_regex_states.specs.First.{state_at}
-use Rattle.fancy_regex_parts.specs.Tables.{IsTable, IsRightAt, mark_of, cost_of, cell_cost, known_cost, due, due_of, owed}
+use Rattle.fancy_regex_parts.specs.Tables.{IsTable, IsRightAt, lowest_of, needed_reach_of, reach_of, mark_of, cost_of, cell_cost, known_cost, due, due_of, owed}
 use Rattle.fancy_regex_parts.specs.Recall.{cell, cell_number, IsSame, IsOpened}
-use Rattle.fancy_regex_parts.specs.Frames.{step_frames, step_task, IsPlace, pending, task_due}
+use Rattle.fancy_regex_parts.specs.Frames.{AllWithin, step_frames, step_task, IsPlace, IsInReach, IsLedInReach, pending, task_due}
 use Rattle.fancy_regex_parts.specs.Layers.{IsOnlyLookedAt, IsOfText, IsAtTask, IsPaid, IsVisit}
 use Rattle.fancy_regex_parts.specs.declared.frame.Frame.{Frame}
 use Rattle.fancy_regex_parts.specs.declared.frame.Frame.TheVariants.{Open}
@@ -21,12 +21,29 @@ use Rattle.fancy_regex_parts.specs.declared.step.PartContext.{PartContext}
 use Rattle.fancy_regex_parts.specs.declared.table.PartTable.{PartTable}
 use Rattle.fancy_regex_parts.proofs.CostLemmas.{step_due, step_length, mode_most, pending_cons}
 use Rattle.fancy_regex_parts.proofs.WeightLemmas.{cost_opened}
+use Rattle.fancy_regex_parts.proofs.PlaceLemmas.{place_back}
 use Rattle.fancy_regex_parts.proofs.StackLemmas.{frames_within, task_within, ends_same, ends_opened}
 use Rattle.fancy_regex_parts.proofs.TrackLemmas.{Tracks-step, Tracks-open, Tracks-fails, Tracks-ends, cell_is}
 
 -- what is right of a state of a table
 pub right_at : (table : PartTable) (q : ℕ) → IsTable table → q < length table.states.items → IsRightAt table q
 right_at table q all within = all.right q within
+
+-- a place in reach of a state is one from the first row on
+pub place_of : (table : PartTable) (text : List ℕ) (base q i : ℕ) → IsInReach table text base q i → IsPlace text base i
+place_of table text base q i h = record { low = omega (arith, h.low); boundary = h.boundary }
+
+-- in reach of a state, so are the states that it leads to
+pub leads_in_reach : (table : PartTable) (text : List ℕ) (base q i : ℕ) (state : State) → IsTable table → IsInReach table text base q i
+    → state ≡ state_at table.states.items q → IsLedInReach table text base state i
+leads_in_reach table text base q i state all h is =
+    let right = right_at table q all h.state in
+    let needed : needed_reach_of table state ≤ reach_of table q = subst (λ s. needed_reach_of table s ≤ reach_of table q) (sym is) right.reaches in
+    record {
+      names = subst (NamesBelow (length table.states.items)) (sym is) right.closed;
+      boundary = h.boundary;
+      low = omega (arith, h.low, needed);
+    }
 
 -- no look, and looks one after the other
 pub no_look : (text : Counted) → IsOnlyLookedAt text text
@@ -63,10 +80,28 @@ module _ (context : PartContext) (text : List ℕ) {recall new_recall : Recall} 
   }
 
 module _ (context : PartContext) (text new_text : Counted) (recall : Recall) (frames : List Frame) (q at : ℕ)
-    (table : IsTable context.table.now) (memory : IsOfText context (looked_text text) recall)
+    (table : IsTable context.table.now) (memory : IsOfText context (looked_text text) recall) (small : length (looked_text text) < 2 ^ 63)
     (place : IsAtTask context (looked_text text) recall.base (Visit q at) frames) where
   right : IsRightAt context.table.now q
-  right = right_at context.table.now q table place.task.0
+  right = right_at context.table.now q table place.task.state
+
+  here_is : IsPlace (looked_text text) recall.base at
+  here_is = place_of context.table.now (looked_text text) recall.base q at place.task
+
+  -- what a step leaves is in reach
+  stepped_within : (state : State) → state ≡ state_at context.table.now.states.items q → (rest : List Frame)
+      → AllWithin context.table.now (looked_text text) recall.base rest
+      → IfSome (char_at (looked_text text) at) (λ c. IsCharBoundary (looked_text text) (at + len_utf8 c))
+      → IsAtTask context (looked_text text) recall.base
+      (step_task context.matchers.now context.rules context.stop q state at (char_before (looked_text text) at) (char_at (looked_text text) at))
+      (step_frames state at rest)
+  stepped_within state state_is rest within next =
+      let led = leads_in_reach context.table.now (looked_text text) recall.base q at state table place.task state_is in
+      record {
+        task = task_within context.table.now (looked_text text) recall.base small context.matchers.now context.rules context.stop q state at _ _ led here_is.low
+            (place_back (looked_text text) at (char_before (looked_text text) at) refl) next;
+        frames = frames_within context.table.now (looked_text text) recall.base small state at rest led within;
+      }
 
   -- a state without a mark
   module _ (none : mark_of context.table.now q ≡ None) (looks : IsOnlyLookedAt text new_text) (count : look_count new_text ≤ look_count text + 1) where
@@ -97,19 +132,15 @@ module _ (context : PartContext) (text new_text : Counted) (recall : Recall) (fr
       pub unmarked_visit : IsVisit context (looked_text text) recall recall frames new_frames q at task
       unmarked_visit =
           let here : owed context.table.now state + 1 ≤ cost_of context.table.now q = subst (λ s. owed context.table.now s + 1 ≤ cost_of context.table.now q) (sym state_is) right.paid in
-          let names : NamesBelow (length context.table.now.states.items) state = subst (NamesBelow (length context.table.now.states.items)) (sym state_is) right.closed in
           let step = step_due context.table.now context.matchers.now context.rules context.stop q state at (char_before (looked_text text) at) (char_at (looked_text text) at) frames in
           record {
             tracking = λ view ways has goal t.
-                let is = has.ends q at place.task.0 place.task.1.boundary in
-                let falls = has.falls q at place.task.0 place.task.1.boundary in
+                let is = has.ends q at place.task.state place.task.boundary in
+                let falls = has.falls q at place.task.state place.task.boundary in
                 rw (task_is, frames_are, state_is)
                 (Tracks-step ways context.table.now.heads.items recall.base view context.matchers.now context.rules context.stop (state_at context.table.now.states.items q) q at _ _ frames goal
-                (has.shows at place.task.1.boundary) falls is t);
-            within = rw (task_is, frames_are) (record {
-              task = task_within (looked_text text) (length context.table.now.states.items) recall.base context.matchers.now context.rules context.stop q state at _ _ names place.task.1 next;
-              frames = frames_within (looked_text text) (length context.table.now.states.items) recall.base state at frames names place.task.1 place.frames;
-            });
+                (has.shows at place.task.boundary) falls is t);
+            within = rw (task_is, frames_are) (stepped_within state state_is frames place.frames next);
             progress = rw (task_is, frames_are) (omega (
               arith,
               here,
@@ -132,7 +163,7 @@ module _ (context : PartContext) (text new_text : Counted) (recall : Recall) (fr
           (task_due context.table.now (Answer end) + pending context.table.now frames)
       known_paid end = record {
         base = same.base;
-        memory = of_text_same context (looked_text text) memory at same rows place.task.1;
+        memory = of_text_same context (looked_text text) memory at same rows here_is;
         counted = let n = same.weight (cell_cost context.table.now) in rw n (omega arith);
         looks = no_look text;
       }
@@ -140,7 +171,7 @@ module _ (context : PartContext) (text new_text : Counted) (recall : Recall) (fr
       pub known_looked : IsPaid context text text recall new_recall (due context.table.now q) 0
       known_looked = record {
         base = same.base;
-        memory = of_text_same context (looked_text text) memory at same rows place.task.1;
+        memory = of_text_same context (looked_text text) memory at same rows here_is;
         counted = let n = same.weight (cell_cost context.table.now) in rw n (omega arith);
         looks = no_look text;
       }
@@ -150,7 +181,7 @@ module _ (context : PartContext) (text new_text : Counted) (recall : Recall) (fr
           let m = right.marked mark some in
           record {
             tracking = λ view ways has goal t.
-                let is = cell_is ways context.table.now.heads.items recall.base q at mark m.0 m.1 place.task.1.low in
+                let is = cell_is ways context.table.now.heads.items recall.base q at mark m.0 m.1 here_is.low in
                 Tracks-fails ways context.table.now.heads.items recall.base ((at - recall.base) * length context.table.now.heads.items + mark) q at frames goal
                 (rw cell_pair at was) same is.0 is.1 t;
             within = record { task = tt; frames = place.frames };
@@ -162,7 +193,7 @@ module _ (context : PartContext) (text new_text : Counted) (recall : Recall) (fr
           let m = right.marked mark some in
           record {
             tracking = λ view ways has goal t.
-                let is = cell_is ways context.table.now.heads.items recall.base q at mark m.0 m.1 place.task.1.low in
+                let is = cell_is ways context.table.now.heads.items recall.base q at mark m.0 m.1 here_is.low in
                 Tracks-ends ways context.table.now.heads.items recall.base ((at - recall.base) * length context.table.now.heads.items + mark) e q at frames goal
                 (rw cell_pair at was) same is.0 t;
             within = record { task = memory.ends _ e was; frames = place.frames };
@@ -180,7 +211,7 @@ module _ (context : PartContext) (text new_text : Counted) (recall : Recall) (fr
           → IsPaid context text new_text recall new_recall (due context.table.now q) 0
       opened_looked looks count = record {
         base = opened.base;
-        memory = of_text_opened context (looked_text text) memory at k opened rows place.task.1;
+        memory = of_text_opened context (looked_text text) memory at k opened rows here_is;
         counted = omega (arith, count, right.paid, cost_more);
         looks = looks;
       }
@@ -197,7 +228,7 @@ module _ (context : PartContext) (text new_text : Counted) (recall : Recall) (fr
             let step = step_due context.table.now context.matchers.now context.rules context.stop q state at (char_before (looked_text text) at) (char_at (looked_text text) at) (Open k ∷ frames) in
             record {
               base = opened.base;
-              memory = of_text_opened context (looked_text text) memory at k opened rows place.task.1;
+              memory = of_text_opened context (looked_text text) memory at k opened rows here_is;
               counted = rw (task_is, frames_are) (omega (arith, count, here, step, cost_more, pending_cons context.table.now (Open k) frames));
               looks = looks;
             }
@@ -205,20 +236,16 @@ module _ (context : PartContext) (text new_text : Counted) (recall : Recall) (fr
         pub opened_visit : IsVisit context (looked_text text) recall new_recall frames new_frames q at task
         opened_visit =
             let here : owed context.table.now state + 1 ≤ cost_of context.table.now q = subst (λ s. owed context.table.now s + 1 ≤ cost_of context.table.now q) (sym state_is) right.paid in
-            let names : NamesBelow (length context.table.now.states.items) state = subst (NamesBelow (length context.table.now.states.items)) (sym state_is) right.closed in
             let m = right.marked mark some in
             let step = step_due context.table.now context.matchers.now context.rules context.stop q state at (char_before (looked_text text) at) (char_at (looked_text text) at) (Open k ∷ frames) in
             record {
               tracking = λ view ways has goal t.
-                  let is = cell_is ways context.table.now.heads.items recall.base q at mark m.0 m.1 place.task.1.low in
+                  let is = cell_is ways context.table.now.heads.items recall.base q at mark m.0 m.1 here_is.low in
                   let pair = k_is ∙ cell_pair in
                   rw (task_is, frames_are, state_is)
                   (Tracks-open ways context.table.now.heads.items recall.base k view context.matchers.now context.rules context.stop (state_at context.table.now.states.items q) q at _ _ frames goal
-                  opened (rw pair is.0) (rw pair is.1) (has.shows at place.task.1.boundary) (has.falls q at place.task.0 place.task.1.boundary) (has.ends q at place.task.0 place.task.1.boundary) t);
-              within = rw (task_is, frames_are) (record {
-                task = task_within (looked_text text) (length context.table.now.states.items) recall.base context.matchers.now context.rules context.stop q state at _ _ names place.task.1 next;
-                frames = frames_within (looked_text text) (length context.table.now.states.items) recall.base state at (Open k ∷ frames) names place.task.1 (tt, place.frames);
-              });
+                  opened (rw pair is.0) (rw pair is.1) (has.shows at place.task.boundary) (has.falls q at place.task.state place.task.boundary) (has.ends q at place.task.state place.task.boundary) t);
+              within = rw (task_is, frames_are) (stepped_within state state_is (Open k ∷ frames) (tt, place.frames) next);
               progress = rw (task_is, frames_are) (omega (
                 arith,
                 here,

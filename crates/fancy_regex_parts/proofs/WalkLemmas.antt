@@ -1,13 +1,14 @@
 -- A walk goes along a first way and into its parts.
-use Rattle.std.proofs.Common.{◌≡◌, ◌∙◌, ℕ, ◌+◌, ◌-◌, ◌*◌, ◌/◌, ◌%◌, ◌^◌, ◌<◌, ◌≤◌, ◌⊎◌, Bool, true, false, List, [], ◌∷◌, ◌++◌, length, Option, Some, None, refl, max, sym, ap, ap₂, subst, inl, inr, arith, append_assoc, length-append, if◌then◌else◌, true≢false, nat_le, le-leb, get_or, replicate}
-use Rattle.std.proofs.lemmas.Bool.{and_parts, cases_eq, leb-true}
+use Rattle.std.proofs.Common.{◌≡◌, ◌∙◌, ℕ, ◌+◌, ◌-◌, ◌*◌, ◌/◌, ◌%◌, ◌^◌, ◌<◌, ◌≤◌, ◌⊎◌, Bool, true, false, List, [], ◌∷◌, ◌++◌, length, Option, Some, None, refl, max, min, sym, ap, ap₂, subst, inl, inr, arith, append_assoc, length-append, if◌then◌else◌, true≢false, nat_le, le-leb, get_or, replicate}
+use Rattle.std.proofs.lemmas.Bool.{and_parts, cases_eq, ltb-true}
+use Rattle.std.proofs.lemmas.Option.{none-some, same_Some}
 use Rattle.std.proofs.lemmas.List.{append-nil}
 use Rattle.std.proofs.Math.Nat.{mul-le-mul_left}
 use Rattle.std.specs.Char.{len_utf8}
 use Rattle.std.specs.Prelude.{IfSome, IsCharBoundary, option_map, unwrap_or, nat_lt}
-use Rattle.regex_hir.specs.Text.{is_some_and, char_at}
+use Rattle.regex_hir.specs.Text.{is_some_and, char_at, char_before}
 use Rattle.fancy_regex_class.specs.declared.class.CharClassMatcher.{CharClassMatcher}
-use Rattle.fancy_regex_states.specs.Attempts.{View, Trace, AttemptResult, Continuation, better_trace, guard, write, after_writes, accept, failed, asked_answer, passed_answer, passed_depth, pick, reads, visit, NamesBelow, ShowsAll}
+use Rattle.fancy_regex_states.specs.Attempts.{View, Trace, AttemptResult, Continuation, better_trace, guard, write, after_writes, accept, failed, asked_answer, passed_answer, passed_depth, resume, stepped, reads, visit, NamesBelow, ShowsAll}
 use Rattle.fancy_regex_states.specs.CharTests.{leaf_matches_char}
 use Rattle.fancy_regex_states.specs.First.{state_at}
 use Rattle.fancy_regex_states.specs.declared.atom.Leaf.{Leaf}
@@ -15,18 +16,20 @@ use Rattle.fancy_regex_states.specs.declared.rules.Rules.{Rules}
 use Rattle.fancy_regex_states.specs.declared.state.State.{State}
 use Rattle.fancy_regex_states.specs.declared.state.State.TheVariants.{Split, Enter, Leave, Ask, Atomic, Match}
 use Rattle.fancy_regex_states.specs.declared.state.State.TheVariants as S
-use Rattle.fancy_regex_parts.specs.Ways.{ways_of, text_view, state_after}
-use Rattle.fancy_regex_parts.specs.Tables.{IsRightAt, mark_of, cost_of, cell_cost, known_cost, due, due_of, owed, table_weight}
+use Rattle.fancy_regex_parts.specs.Ways.{ways_of, text_view, state_after, place_after}
+use Rattle.fancy_regex_parts.specs.Tables.{IsRightAt, IsTable, lowest_of, lowest_for, needed_reach_of, reach_of, mark_of, cost_of, cell_cost, known_cost, due, due_of, owed, table_weight}
 use Rattle.fancy_regex_parts.specs.Recall.{cell, cell_number}
-use Rattle.fancy_regex_parts.specs.Frames.{IsPlace, cell_depth}
+use Rattle.fancy_regex_parts.specs.Frames.{IsPlace, IsInReach, IsLedInReach, cell_depth}
 use Rattle.fancy_regex_parts.specs.Layers.{HasWays}
-use Rattle.fancy_regex_parts.specs.Walk.{IsTried, dearest, apply, keep, fill, AreSet, last_first, read_tasks, branch_of, group_tasks, tasks_at, part_end_of, walk_tasks, IsMet, IsArrival, IsVisitedWithin, IsFollowed, IsTaskOf, AllTasksWithin, task_due, tasks_due, looks_left, work_left, AreLeft, trace_writes, HasTrace, task_writes, all_writes, HaveWays, IsBelow, AreDone, cell_writes, IsWalking}
+use Rattle.fancy_regex_parts.specs.Walk.{IsTried, dearest, apply, keep, fill, AreSet, last_first, read_tasks, back_tasks, branch_of, group_tasks, tasks_at, part_end_of, walk_tasks, IsMet, IsArrival, IsVisitedWithin, IsReached, IsFollowed, IsTaskOf, AllTasksWithin, task_due, tasks_due, looks_left, work_left, AreLeft, trace_writes, HasTrace, task_writes, all_writes, HaveWays, IsBelow, AreDone, cell_writes, IsWalking}
 use Rattle.fancy_regex_parts.specs.declared.recall.Recall.{Recall}
 use Rattle.fancy_regex_parts.specs.declared.step.PartContext.{PartContext}
 use Rattle.fancy_regex_parts.specs.declared.table.PartTable.{PartTable}
 use Rattle.fancy_regex_parts.specs.declared.groups.WalkTask.{WalkTask}
 use Rattle.fancy_regex_parts.specs.declared.groups.WalkTask.TheVariants.{Follow, Start, End}
-use Rattle.fancy_regex_parts.proofs.BetweenLemmas.{AllBy, EndsBetween, ends_between, picked}
+use Rattle.fancy_regex_parts.proofs.BetweenLemmas.{AllBy, EndsBy, ends_by, picked}
+use Rattle.fancy_regex_parts.proofs.PlaceLemmas.{IsPrior}
+use Rattle.fancy_regex_parts.proofs.VisitLemmas.{leads_in_reach, right_at}
 use Rattle.fancy_regex_parts.proofs.FillLemmas.{fill_both, fill_set, all_set_kept, all_set_filled, filled_set, filled_is_applied}
 use Rattle.fancy_regex_parts.proofs.TrackLemmas.{cell_is}
 use Rattle.fancy_regex_parts.proofs.RecallLemmas.{place_parts}
@@ -41,22 +44,6 @@ last_pushed (x ∷ xs) f = ap (λ t. t ++ x ∷ []) (last_pushed xs f)
 pub last_none : last_first [] ≡ []
 unfolding last_first
 last_none = refl
-
--- which part a state asks
-abbrev AsksPart : State → ℕ → Type 0
-AsksPart (Ask part negated next) p = p ≡ part
-AsksPart (Atomic part same moved) p = p ≡ part
-AsksPart _ p = ⊥
-
-asked_below : (count : ℕ) (state : State) (p : ℕ) → AsksPart state p → NamesBelow count state → p < count
-asked_below count (S.Read leaf next) p asks names = absurd asks
-asked_below count (S.Look check next) p asks names = absurd asks
-asked_below count (Split first second) p asks names = absurd asks
-asked_below count (Enter g next) p asks names = absurd asks
-asked_below count (Leave g next) p asks names = absurd asks
-asked_below count (Ask part negated next) p asks names = subst (λ (k : ℕ). k < count) (sym asks) names.0
-asked_below count (Atomic part same moved) p asks names = subst (λ (k : ℕ). k < count) (sym asks) names.0
-asked_below count Match p asks names = absurd asks
 
 module _ (go : ℕ → Continuation) where
   abbrev AllBelow : ℕ → List WalkTask → Type 0
@@ -81,6 +68,16 @@ module _ (go : ℕ → Continuation) where
   read_follows true None next i j matches has is h = absurd (true≢false (sym (has refl)))
   read_follows true (Some c) next i j matches has is h =
       subst (λ (n : ℕ). Follows ((go next j).depth + 1) (trace_writes (go next j).answer) (Follow next n ∷ [])) is
+      (record { ways = (h, tt); below = (omega arith, tt); writes = refl })
+
+  back_follows : (o before : Option ℕ) (next i : ℕ) → o ≡ option_map len_utf8 before → HasTrace (stepped o i (go next)).answer
+      → Follows (stepped o i (go next)).depth (trace_writes (stepped o i (go next)).answer) (back_tasks next i before)
+  back_follows None None next i is h = absurd h
+  back_follows None (Some c) next i is h = absurd h
+  back_follows (Some bytes) None next i is h = absurd (none-some bytes (sym is))
+  back_follows (Some bytes) (Some c) next i is h =
+      let same : bytes ≡ len_utf8 c = same_Some bytes (len_utf8 c) is in
+      subst (λ (n : ℕ). Follows ((go next (i - bytes)).depth + 1) (trace_writes (go next (i - bytes)).answer) (Follow next (i - n) ∷ [])) same
       (record { ways = (h, tt); below = (omega arith, tt); writes = refl })
 
   one_follows : (q i d : ℕ) (a : Option Trace) → (go q i).answer ≡ a → (go q i).depth < d → HasTrace a → Follows d (trace_writes a) (Follow q i ∷ [])
@@ -123,28 +120,22 @@ module _ (go : ℕ → Continuation) where
         writes = ap₂ (λ (x y : Option Trace). trace_writes x ++ trace_writes y) a_is b_is ∙ wrote_after t.writes b b_has;
       }
 
-  asked_follows : (negated : Bool) (part next i d : ℕ) (leaf_after end : Option ℕ) (a b : Option Trace) → (go part i).answer ≡ a → (go next i).answer ≡ b
+  asked_follows : (negated : Bool) (part next i d : ℕ) (before after end : Option ℕ) (a b : Option Trace) → (go part i).answer ≡ a → (go next i).answer ≡ b
       → (go part i).depth < d → (go next i).depth < d → HasTrace (asked_answer negated a b)
-      → Follows d (trace_writes (asked_answer negated a b)) (tasks_at (Ask part negated next) i leaf_after end)
-  asked_follows false part next i d after end None b a_is b_is one two h = absurd h
-  asked_follows false part next i d after end (Some t) b a_is b_is one two h = two_follow part i next i d t b a_is b_is one two h
-  asked_follows true part next i d after end None b a_is b_is one two h = one_follows next i d b b_is two h
-  asked_follows true part next i d after end (Some t) b a_is b_is one two h = absurd h
+      → Follows d (trace_writes (asked_answer negated a b)) (tasks_at (Ask part negated next) i before after end)
+  asked_follows false part next i d before after end None b a_is b_is one two h = absurd h
+  asked_follows false part next i d before after end (Some t) b a_is b_is one two h = two_follow part i next i d t b a_is b_is one two h
+  asked_follows true part next i d before after end None b a_is b_is one two h = one_follows next i d b b_is two h
+  asked_follows true part next i d before after end (Some t) b a_is b_is one two h = absurd h
 
-  tasks_if : (d : ℕ) (ws : List (ℕ × ℕ)) (b : Bool) (tasks : List WalkTask) → b ≡ true → Follows d ws tasks → Follows d ws (if b then tasks else [])
-  tasks_if d ws true tasks holds h = h
-  tasks_if d ws false tasks holds h = absurd (true≢false (sym holds))
-
-  group_follows : (len part same moved i d : ℕ) (a : Option Trace) → (go part i).answer ≡ a → EndsBetween i len a → (go part i).depth < d
-      → passed_depth a (pick i (go same) (go moved)) < d → HasTrace (passed_answer a (pick i (go same) (go moved)))
-      → Follows d (trace_writes (passed_answer a (pick i (go same) (go moved)))) (group_tasks part same moved i (option_map (λ t. t.end) a))
-  group_follows len part same moved i d None a_is within one deep h = absurd h
-  group_follows len part same moved i d (Some t) a_is within one deep h =
+  group_follows : (part same moved i d : ℕ) (a : Option Trace) → (go part i).answer ≡ a → (go part i).depth < d
+      → passed_depth a (resume i (go same) (go moved)) < d → HasTrace (passed_answer a (resume i (go same) (go moved)))
+      → Follows d (trace_writes (passed_answer a (resume i (go same) (go moved)))) (group_tasks part same moved i (option_map (λ t. t.end) a))
+  group_follows part same moved i d None a_is one deep h = absurd h
+  group_follows part same moved i d (Some t) a_is one deep h =
       let is = picked go i same moved t.end in
-      let q : ℕ = state_after i same moved t.end in
-      tasks_if d _ (nat_le i t.end) (Follow q t.end ∷ Follow part i ∷ []) (le-leb i t.end within.0)
-      (two_follow part i q t.end d t (pick i (go same) (go moved) t.end).answer a_is (ap (λ (r : AttemptResult). r.answer) (sym is)) one
-      (subst (λ (r : AttemptResult). r.depth < d) is deep) h)
+      two_follow part i (state_after i same moved t.end) (place_after i t.end) d t (resume i (go same) (go moved) t.end).answer a_is
+      (ap (λ (r : AttemptResult). r.answer) (sym is)) one (subst (λ (r : AttemptResult). r.depth < d) is deep) h
 
 module _ (view : View) (len : ℕ) (go : ℕ → Continuation) (first : view.longest ≡ false) (matchers : List CharClassMatcher) (rules : Rules)
     (text : List ℕ) (shows : ShowsAll matchers rules text (text_view view)) (i : ℕ) (b : IsCharBoundary text i) where
@@ -153,25 +144,26 @@ module _ (view : View) (len : ℕ) (go : ℕ → Continuation) (first : view.lon
   reads_has leaf e = sym ((shows i b).has leaf) ∙ (and_parts _ _ e).0
 
   -- the first way from a state at a place
-  visit_follows : (state : State) → ((p : ℕ) → AsksPart state p → EndsBetween i len (go p i).answer) → HasTrace (visit view len go state i).answer
-      → Follows go (visit view len go state i).depth (trace_writes (visit view len go state i).answer) (walk_tasks (ways_of go) (char_at text i) state i)
-  visit_follows (S.Read leaf next) part h =
+  visit_follows : (state : State) → HasTrace (visit view len go state i).answer
+      → Follows go (visit view len go state i).depth (trace_writes (visit view len go state i).answer) (walk_tasks (ways_of go) (char_before text i) (char_at text i) state i)
+  visit_follows (S.Read leaf next) h =
       read_follows go (reads view len leaf i) (char_at text i) next i (view.next i) (leaf_matches_char rules.unicode matchers leaf)
       (reads_has leaf) (shows i b).next h
-  visit_follows (S.Look check next) part h = look_follows go (view.holds check i) next i h
-  visit_follows (Split one two) part h =
+  visit_follows (S.Look check next) h = look_follows go (view.holds check i) next i h
+  visit_follows (S.Back next) h = back_follows go (view.back i) (char_before text i) next i (shows i b).back h
+  visit_follows (Split one two) h =
       split_follows go view.longest one two i _ (go one i).answer (go two i).answer first refl refl (omega arith) (omega arith) h
-  visit_follows (Enter g next) part h =
+  visit_follows (Enter g next) h =
       let has = has_written go (2 * g) i (go next i).answer h in
       record { ways = (has, tt); below = (omega arith, (tt, tt)); writes = wrote go (2 * g) i (go next i).answer has }
-  visit_follows (Leave g next) part h =
+  visit_follows (Leave g next) h =
       let has = has_written go (2 * g + 1) i (go next i).answer h in
       record { ways = (has, tt); below = (omega arith, (tt, tt)); writes = wrote go (2 * g + 1) i (go next i).answer has }
-  visit_follows (Ask asked_part negated next) part h =
-      asked_follows go negated asked_part next i _ (char_at text i) None (go asked_part i).answer (go next i).answer refl refl (omega arith) (omega arith) h
-  visit_follows (Atomic asked_part same moved) part h =
-      group_follows go len asked_part same moved i _ (go asked_part i).answer refl (part asked_part refl) (omega arith) (omega arith) h
-  visit_follows Match part h = record { ways = tt; below = tt; writes = refl }
+  visit_follows (Ask asked_part negated next) h =
+      asked_follows go negated asked_part next i _ (char_before text i) (char_at text i) None (go asked_part i).answer (go next i).answer refl refl (omega arith) (omega arith) h
+  visit_follows (Atomic asked_part same moved) h =
+      group_follows go asked_part same moved i _ (go asked_part i).answer refl (omega arith) (omega arith) h
+  visit_follows Match h = record { ways = tt; below = tt; writes = refl }
 
 module _ (context : PartContext) (text : List ℕ) (view : View) (go : ℕ → Continuation) (tried : IsTried context text view go) where
   -- the states have the ways of what they do
@@ -193,31 +185,29 @@ module _ (context : PartContext) (text : List ℕ) (view : View) (go : ℕ → C
   -- the first way from a state of the context at a place
   pair_follows : (q i : ℕ) → q < length context.table.now.states.items → IsCharBoundary text i → HasTrace (go q i).answer
       → Follows go (go q i).depth (trace_writes (go q i).answer)
-      (walk_tasks (ways_of go) (char_at text i) (state_at context.table.now.states.items q) i)
+      (walk_tasks (ways_of go) (char_before text i) (char_at text i) (state_at context.table.now.states.items q) i)
   pair_follows q i low b h =
       let states = context.table.now.states.items in
       elim (tried.does.agree q low) [
         | inl own ↦
             let final : state_at states q ≡ Match = ap (state_at states) own ∙ tried.does.final in
-            subst (λ (s : State). Follows go (go q i).depth (trace_writes (go q i).answer) (walk_tasks (ways_of go) (char_at text i) s i)) (sym final)
+            subst (λ (s : State). Follows go (go q i).depth (trace_writes (go q i).answer) (walk_tasks (ways_of go) (char_before text i) (char_at text i) s i)) (sym final)
             (subst (λ (p : ℕ). Follows go (go p i).depth (trace_writes (go p i).answer) []) (sym own)
             (own_follows i (subst (λ (p : ℕ). HasTrace (go p i).answer) own h)))
         | inr agree ↦
             let is = agree.does i b.0 in
-            let parts : (p : ℕ) → AsksPart (state_at states q) p → EndsBetween i (length text) (go p i).answer = λ p asks.
-            ends_between view (length text) context.stop states go tried.does p i (asked_below (length states) (state_at states q) p asks agree.names) b.0 in
-            subst (λ (r : AttemptResult). Follows go r.depth (trace_writes r.answer) (walk_tasks (ways_of go) (char_at text i) (state_at states q) i)) (sym is)
-            (visit_follows view (length text) go tried.first context.matchers.now context.rules text tried.shows i b (state_at states q) parts
+            subst (λ (r : AttemptResult). Follows go r.depth (trace_writes r.answer) (walk_tasks (ways_of go) (char_before text i) (char_at text i) (state_at states q) i)) (sym is)
+            (visit_follows view (length text) go tried.first context.matchers.now context.rules text tried.shows i b (state_at states q)
             (subst (λ (r : AttemptResult). HasTrace r.answer) is h))
       ]
 
-  by_of : (i : ℕ) (a : Option Trace) → EndsBetween i (length text) a → AllBy (length text) (trace_writes a)
-  by_of i None h = tt
-  by_of i (Some t) h = h.2
+  by_of : (a : Option Trace) → EndsBy (length text) a → AllBy (length text) (trace_writes a)
+  by_of None h = tt
+  by_of (Some t) h = h.1
 
   -- what is written is in the text
   pub writes_by : (q i : ℕ) → q < length context.table.now.states.items → i ≤ length text → AllBy (length text) (trace_writes (go q i).answer)
-  writes_by q i low le = by_of i (go q i).answer (ends_between view (length text) context.stop context.table.now.states.items go tried.does q i low le)
+  writes_by q i low le = by_of (go q i).answer (ends_by view (length text) context.stop context.table.now.states.items go tried.does q i low le)
 
 module _ (go : ℕ → Continuation) where
   all_both : (xs ys : List WalkTask) → all_writes go (xs ++ ys) ≡ all_writes go ys ++ all_writes go xs
@@ -372,13 +362,13 @@ module _ (table : PartTable) (go : ℕ → Continuation) (base : ℕ) (old new :
   pub walks_on : (context : PartContext) (text : List ℕ) (view : View) → IsTried context text view go → context.table.now ≡ table → length text < 2 ^ 63
       → q < length table.states.items → IsCharBoundary text i → IsArrival table old new q i true → (goal slots : List ℕ) (rest : List WalkTask)
       → IsWalking go table.heads.items base old goal slots (Follow q i ∷ rest)
-      → IsWalking go table.heads.items base new goal slots (walk_tasks (ways_of go) (char_at text i) (state_at table.states.items q) i ++ rest)
+      → IsWalking go table.heads.items base new goal slots (walk_tasks (ways_of go) (char_before text i) (char_at text i) (state_at table.states.items q) i ++ rest)
   walks_on context text view tried is small within b arrival goal slots rest h =
       let here = subst (λ (t : PartTable). q < length t.states.items) (sym is) within in
-      let follows = subst (λ (t : PartTable). Follows go (go q i).depth (trace_writes (go q i).answer) (walk_tasks (ways_of go) (char_at text i) (state_at t.states.items q) i)) is
+      let follows = subst (λ (t : PartTable). Follows go (go q i).depth (trace_writes (go q i).answer) (walk_tasks (ways_of go) (char_before text i) (char_at text i) (state_at t.states.items q) i)) is
       (pair_follows context text view go tried q i here b h.have_ways.0) in
       went_on go table.heads.items base old new goal slots q i rest h (length text) small (writes_by context text view go tried q i here b.0)
-      (walk_tasks (ways_of go) (char_at text i) (state_at table.states.items q) i) follows (met_pair (mark_of table q) refl arrival)
+      (walk_tasks (ways_of go) (char_before text i) (char_at text i) (state_at table.states.items q) i) follows (met_pair (mark_of table q) refl arrival)
 
   met_again : (m : Option ℕ) → mark_of table q ≡ m → IsMet old new i m false → (goal slots : List ℕ) (rest : List WalkTask)
       → IsWalking go table.heads.items base old goal slots (Follow q i ∷ rest) → IsWalking go table.heads.items base new goal slots rest
@@ -450,60 +440,98 @@ module _ (table : PartTable) (q i : ℕ) (right : IsRightAt table q) (old new : 
     unfolding tasks_due
     past_less arrival = omega (arith, met_same (mark_of table q) arrival)
 
-module _ (table : PartTable) (text : List ℕ) (base start dear : ℕ) where
-  within_both : (xs ys : List WalkTask) → AllTasksWithin table text base start dear xs → AllTasksWithin table text base start dear ys
-      → AllTasksWithin table text base start dear (xs ++ ys)
+-- the walk has a row for the place
+pub reached_low : (table : PartTable) (text : List ℕ) (base lowest q i : ℕ) → IsReached table text base lowest q i → lowest ≤ i
+reached_low table text base lowest q i h = omega (arith, h.low)
+
+module _ (table : PartTable) (text : List ℕ) (base lowest dear : ℕ) where
+  within_both : (xs ys : List WalkTask) → AllTasksWithin table text base lowest dear xs → AllTasksWithin table text base lowest dear ys
+      → AllTasksWithin table text base lowest dear (xs ++ ys)
   within_both [] ys h k = k
   within_both (x ∷ xs) ys h k = (h.0, within_both xs ys h.1 k)
 
-  followed : (q i : ℕ) → q < length table.states.items → IsPlace text base i → start ≤ i → due table q ≤ dear → IsFollowed table text base start dear q i
-  followed q i state place low cheap = record { reached = record { state = state; place = place; low = low }; cheap = cheap }
-
-  read_within : (next at : ℕ) (after : Option ℕ) → next < length table.states.items → IsPlace text base at → start ≤ at → due table next ≤ dear
-      → IfSome after (λ c. IsCharBoundary text (at + len_utf8 c)) → AllTasksWithin table text base start dear (read_tasks next at after)
-  read_within next at None names place low cheap b = tt
-  read_within next at (Some c) names place low cheap b =
-      (followed next (at + len_utf8 c) names (record { low = omega (arith, place.low); boundary = b }) (omega (arith, low)) cheap, tt)
-
-  branch_within : (one two at : ℕ) (end : Option ℕ) → IsFollowed table text base start dear one at → IsFollowed table text base start dear two at
-      → IsFollowed table text base start dear (branch_of one two end) at
+  branch_within : (one two at : ℕ) (end : Option ℕ) → IsFollowed table text base lowest dear one at → IsFollowed table text base lowest dear two at
+      → IsFollowed table text base lowest dear (branch_of one two end) at
   branch_within one two at None h k = k
   branch_within one two at (Some e) h k = h
 
-  pick_within : (b : Bool) (same moved e : ℕ) → IsFollowed table text base start dear same e → IsFollowed table text base start dear moved e
-      → IsFollowed table text base start dear (if b then moved else same) e
-  pick_within true same moved e h k = k
-  pick_within false same moved e h k = h
-
-  group_within : (part same moved at : ℕ) (end : Option ℕ) → IsFollowed table text base start dear part at → same < length table.states.items
-      → moved < length table.states.items → IfSome end (IsPlace text base) → due table same ≤ dear → due table moved ≤ dear → start ≤ at
-      → AllTasksWithin table text base start dear (group_tasks part same moved at end)
-  group_within part same moved at None h s m place s_cheap m_cheap low = tt
-  group_within part same moved at (Some e) h s m place s_cheap m_cheap low = by_order (nat_le at e) (λ yes. leb-true at e yes)
+  group_within : (part same moved at : ℕ) (end : Option ℕ) → IsFollowed table text base lowest dear part at → IsFollowed table text base lowest dear same at
+      → ((e : ℕ) → at < e → IsCharBoundary text e → IsFollowed table text base lowest dear moved e) → IfSome end (IsPlace text base)
+      → AllTasksWithin table text base lowest dear (group_tasks part same moved at end)
+  group_within part same moved at None h s m place = tt
+  group_within part same moved at (Some e) h s m place = (picked_within (nat_lt at e) (λ yes. ltb-true at e yes), (h, tt))
     where
-      by_order : (b : Bool) → (b ≡ true → at ≤ e)
-          → AllTasksWithin table text base start dear (if b then Follow (state_after at same moved e) e ∷ Follow part at ∷ [] else [])
-      by_order true order =
-          let later : start ≤ e = omega (arith, low, order refl) in
-          (pick_within (nat_lt at e) same moved e (followed same e s place later s_cheap) (followed moved e m place later m_cheap), (h, tt))
-      by_order false order = tt
+      picked_within : (b : Bool) → (b ≡ true → at < e) → IsFollowed table text base lowest dear (if b then moved else same) (if b then e else at)
+      picked_within true order = m e (order refl) place.boundary
+      picked_within false order = s
+
+  module _ (small : length text < 2 ^ 63) (state : State) (at : ℕ) (led : IsLedInReach table text base state at) (low : lowest ≤ lowest_for table state at)
+    where
+      -- a state that this one leads to, at the place or a later one
+      followed : (next j : ℕ) → next < length table.states.items → reach_of table next ≤ needed_reach_of table state → at ≤ j → IsCharBoundary text j
+          → due table next ≤ dear → IsFollowed table text base lowest dear next j
+      followed next j names less later boundary cheap = record {
+        reached = record {
+          reach = record { state = names; boundary = boundary; low = omega (arith, led.low, less, later) };
+          low = omega (arith, low, less, later);
+        };
+        cheap = cheap;
+      }
+
+      -- and at the place itself
+      on : (next : ℕ) → next < length table.states.items → reach_of table next ≤ needed_reach_of table state → due table next ≤ dear
+          → IsFollowed table text base lowest dear next at
+      on next names less cheap = followed next at names less (omega arith) led.boundary cheap
+
+      read_within : (next : ℕ) (after : Option ℕ) → next < length table.states.items → reach_of table next ≤ needed_reach_of table state → due table next ≤ dear
+          → IfSome after (λ c. IsCharBoundary text (at + len_utf8 c)) → AllTasksWithin table text base lowest dear (read_tasks next at after)
+      read_within next None names less cheap b = tt
+      read_within next (Some c) names less cheap b = (followed next (at + len_utf8 c) names less (omega arith) b cheap, tt)
+
+      back_within : (next : ℕ) (before : Option ℕ) → next < length table.states.items
+          → min (reach_of table next + 1) (2 ^ 64 - 1) ≤ needed_reach_of table state → due table next ≤ dear
+          → IfSome before (IsPrior text at) → AllTasksWithin table text base lowest dear (back_tasks next at before)
+      back_within next None names less cheap prior = tt
+      back_within next (Some c) names less cheap prior = (
+        record {
+          reached = record {
+            reach = record { state = names; boundary = prior.0; low = omega (arith, led.low, less, prior.1, prior.2, small, led.boundary.0) };
+            low = omega (arith, low, less, prior.1, prior.2, small, led.boundary.0);
+          };
+          cheap = cheap;
+        },
+        tt,
+      )
 
   -- what is left is of the text
-  tasks_within : (state : State) (at : ℕ) (after end : Option ℕ) → NamesBelow (length table.states.items) state → IsPlace text base at → start ≤ at
-      → owed table state ≤ dear → IfSome after (λ c. IsCharBoundary text (at + len_utf8 c)) → IfSome end (IsPlace text base)
-      → AllTasksWithin table text base start dear (tasks_at state at after end)
-  tasks_within (S.Read leaf next) at after end names place low cheap b ends = read_within next at after names place low cheap b
-  tasks_within (S.Look check next) at after end names place low cheap b ends = (followed next at names place low cheap, tt)
-  tasks_within (Split one two) at after end names place low cheap b ends =
-      (branch_within one two at end (followed one at names.0 place low (omega (arith, cheap))) (followed two at names.1 place low (omega (arith, cheap))), tt)
-  tasks_within (Enter g next) at after end names place low cheap b ends = (followed next at names place low cheap, (place.boundary.0, tt))
-  tasks_within (Leave g next) at after end names place low cheap b ends = (followed next at names place low cheap, (place.boundary.0, tt))
-  tasks_within (Ask part false next) at after end names place low cheap b ends =
-      (followed next at names.1 place low (omega (arith, cheap)), (followed part at names.0 place low (omega (arith, cheap)), tt))
-  tasks_within (Ask part true next) at after end names place low cheap b ends = (followed next at names.1 place low (omega (arith, cheap)), tt)
-  tasks_within (Atomic part same moved) at after end names place low cheap b ends =
-      group_within part same moved at end (followed part at names.0 place low (omega (arith, cheap))) names.1 names.2 ends (omega (arith, cheap)) (omega (arith, cheap)) low
-  tasks_within Match at after end names place low cheap b ends = tt
+  tasks_within : (small : length text < 2 ^ 63) (state : State) (at : ℕ) (before after end : Option ℕ) → IsLedInReach table text base state at
+      → lowest ≤ lowest_for table state at → owed table state ≤ dear → IfSome before (IsPrior text at)
+      → IfSome after (λ c. IsCharBoundary text (at + len_utf8 c)) → IfSome end (IsPlace text base)
+      → AllTasksWithin table text base lowest dear (tasks_at state at before after end)
+  tasks_within small (S.Read leaf next) at before after end led low cheap prior b ends =
+      read_within small (S.Read leaf next) at led low next after led.names (omega arith) cheap b
+  tasks_within small (S.Look check next) at before after end led low cheap prior b ends =
+      (on small (S.Look check next) at led low next led.names (omega arith) cheap, tt)
+  tasks_within small (S.Back next) at before after end led low cheap prior b ends =
+      back_within small (S.Back next) at led low next before led.names (omega arith) cheap prior
+  tasks_within small (Split one two) at before after end led low cheap prior b ends =
+      let here = on small (Split one two) at led low in
+      (branch_within one two at end (here one led.names.0 (omega arith) (omega (arith, cheap))) (here two led.names.1 (omega arith) (omega (arith, cheap))), tt)
+  tasks_within small (Enter g next) at before after end led low cheap prior b ends =
+      (on small (Enter g next) at led low next led.names (omega arith) cheap, (led.boundary.0, tt))
+  tasks_within small (Leave g next) at before after end led low cheap prior b ends =
+      (on small (Leave g next) at led low next led.names (omega arith) cheap, (led.boundary.0, tt))
+  tasks_within small (Ask part false next) at before after end led low cheap prior b ends =
+      let here = on small (Ask part false next) at led low in
+      (here next led.names.1 (omega arith) (omega (arith, cheap)), (here part led.names.0 (omega arith) (omega (arith, cheap)), tt))
+  tasks_within small (Ask part true next) at before after end led low cheap prior b ends =
+      (on small (Ask part true next) at led low next led.names.1 (omega arith) (omega (arith, cheap)), tt)
+  tasks_within small (Atomic part same moved) at before after end led low cheap prior b ends =
+      let state : State = Atomic part same moved in
+      group_within part same moved at end (on small state at led low part led.names.0 (omega arith) (omega (arith, cheap)))
+      (on small state at led low same led.names.1 (omega arith) (omega (arith, cheap)))
+      (λ e later place. followed small state at led low moved e led.names.2 (omega arith) (omega (arith, later)) place (omega (arith, cheap))) ends
+  tasks_within small Match at before after end led low cheap prior b ends = tt
 
 module _ (table : PartTable) where
   due_both : (xs ys : List WalkTask) → tasks_due table (xs ++ ys) ≡ tasks_due table xs + tasks_due table ys
@@ -515,6 +543,11 @@ module _ (table : PartTable) where
   unfolding tasks_due
   read_due next at None = (omega arith, omega arith)
   read_due next at (Some c) = (omega arith, omega arith)
+
+  back_due : (next at : ℕ) (before : Option ℕ) → (tasks_due table (back_tasks next at before) ≤ due table next) × (length (back_tasks next at before) ≤ 2)
+  unfolding tasks_due
+  back_due next at None = (omega arith, omega arith)
+  back_due next at (Some c) = (omega arith, omega arith)
 
   branch_due : (one two : ℕ) (end : Option ℕ) → due table (branch_of one two end) ≤ due table one + due table two
   branch_due one two None = omega arith
@@ -529,40 +562,40 @@ module _ (table : PartTable) where
       × (length (group_tasks part same moved at end) ≤ 2)
   unfolding tasks_due
   group_due part same moved at None = (omega arith, omega arith)
-  group_due part same moved at (Some e) = by_order (nat_le at e)
-    where
-      by_order : (b : Bool)
-          → (tasks_due table (if b then Follow (state_after at same moved e) e ∷ Follow part at ∷ [] else []) ≤ due table part + max (due table same) (due table moved))
-          × (length (if b then Follow (state_after at same moved e) e ∷ Follow part at ∷ [] else []) ≤ 2)
-      by_order true = (omega (arith, pick_due (nat_lt at e) same moved), omega arith)
-      by_order false = (omega arith, omega arith)
+  group_due part same moved at (Some e) = (omega (arith, pick_due (nat_lt at e) same moved), omega arith)
 
   -- what is due for what is left is owed at the state
-  at_due : (state : State) (at : ℕ) (after end : Option ℕ)
-      → (tasks_due table (tasks_at state at after end) ≤ owed table state) × (length (tasks_at state at after end) ≤ 2)
+  at_due : (state : State) (at : ℕ) (before after end : Option ℕ)
+      → (tasks_due table (tasks_at state at before after end) ≤ owed table state) × (length (tasks_at state at before after end) ≤ 2)
   unfolding tasks_due
-  at_due (S.Read leaf next) at after end = read_due next at after
-  at_due (S.Look check next) at after end = (omega arith, omega arith)
-  at_due (Split one two) at after end = (omega (arith, branch_due one two end), omega arith)
-  at_due (Enter g next) at after end = (omega arith, omega arith)
-  at_due (Leave g next) at after end = (omega arith, omega arith)
-  at_due (Ask part false next) at after end = (omega arith, omega arith)
-  at_due (Ask part true next) at after end = (omega arith, omega arith)
-  at_due (Atomic part same moved) at after end = group_due part same moved at end
-  at_due Match at after end = (omega arith, omega arith)
+  at_due (S.Read leaf next) at before after end = read_due next at after
+  at_due (S.Look check next) at before after end = (omega arith, omega arith)
+  at_due (S.Back next) at before after end = back_due next at before
+  at_due (Split one two) at before after end = (omega (arith, branch_due one two end), omega arith)
+  at_due (Enter g next) at before after end = (omega arith, omega arith)
+  at_due (Leave g next) at before after end = (omega arith, omega arith)
+  at_due (Ask part false next) at before after end = (omega arith, omega arith)
+  at_due (Ask part true next) at before after end = (omega arith, omega arith)
+  at_due (Atomic part same moved) at before after end = group_due part same moved at end
+  at_due Match at before after end = (omega arith, omega arith)
 
-  pub left_at : (text : List ℕ) (base q at : ℕ) (state : State) (after end : Option ℕ) (rest : List WalkTask) → state ≡ state_at table.states.items q
-      → NamesBelow (length table.states.items) state → IsPlace text base at → IfSome after (λ c. IsCharBoundary text (at + len_utf8 c))
-      → IfSome end (IsPlace text base) → AreLeft table text base q at rest (tasks_at state at after end ++ rest)
-  left_at text base q at state after end rest is names place b ends =
-      let dues = at_due state at after end in
+  pub left_at : (text : List ℕ) (base q at : ℕ) (state : State) (before after end : Option ℕ) (rest : List WalkTask) → IsTable table → length text < 2 ^ 63
+      → IsInReach table text base q at → state ≡ state_at table.states.items q → IfSome before (IsPrior text at)
+      → IfSome after (λ c. IsCharBoundary text (at + len_utf8 c)) → IfSome end (IsPlace text base)
+      → AreLeft table text base q at rest (tasks_at state at before after end ++ rest)
+  left_at text base q at state before after end rest all small reach is prior b ends =
+      let dues = at_due state at before after end in
       let owes : owed table state ≡ owed table (state_at table.states.items q) = ap (owed table) is in
+      let right = right_at table q all reach.state in
+      let needed : needed_reach_of table state ≤ reach_of table q = subst (λ s. needed_reach_of table s ≤ reach_of table q) (sym is) right.reaches in
       record {
-        within = λ start dear low cheap old.
-            within_both table text base start dear (tasks_at state at after end) rest
-            (tasks_within table text base start dear state at after end names place low (omega (arith, owes, cheap)) b ends) old;
-        due_is = omega (arith, due_both (tasks_at state at after end) rest, dues.0, owes);
-        few = omega (arith, length-append (tasks_at state at after end) rest, dues.1);
+        within = λ lowest dear low cheap old.
+            let here : lowest ≤ lowest_for table state at = omega (arith, low, needed) in
+            within_both table text base lowest dear (tasks_at state at before after end) rest
+            (tasks_within table text base lowest dear small state at before after end (leads_in_reach table text base q at state all reach is) here
+            (omega (arith, owes, cheap)) prior b ends) old;
+        due_is = omega (arith, due_both (tasks_at state at before after end) rest, dues.0, owes);
+        few = omega (arith, length-append (tasks_at state at before after end) rest, dues.1);
       }
 
 module _ (table : PartTable) (entry : ℕ) where
@@ -612,10 +645,10 @@ unfolding tasks_due
 rest_less table x rest len start visited = omega arith
 
 -- before the first step
-pub begins : (go : ℕ → Continuation) (heads : List ℕ) (base : ℕ) (visited : Recall) (entry n len : ℕ) (t : Trace) → len < 2 ^ 63
-    → AllBy len t.writes → (go entry base).answer ≡ Some t → ((k : ℕ) → cell visited k ≡ 0)
-    → IsWalking go heads base visited (apply t.writes (replicate n 18446744073709551615)) (replicate n 18446744073709551615) (Follow entry base ∷ [])
-begins go heads base visited entry n len t small by is none =
+pub begins : (go : ℕ → Continuation) (heads : List ℕ) (base : ℕ) (visited : Recall) (entry start n len : ℕ) (t : Trace) → len < 2 ^ 63
+    → AllBy len t.writes → (go entry start).answer ≡ Some t → ((k : ℕ) → cell visited k ≡ 0)
+    → IsWalking go heads base visited (apply t.writes (replicate n 18446744073709551615)) (replicate n 18446744073709551615) (Follow entry start ∷ [])
+begins go heads base visited entry start n len t small by is none =
     record {
       left = ap (λ (o : Option Trace). fill (trace_writes o) (replicate n 18446744073709551615)) is ∙ filled_is_applied len small t.writes n by;
       have_ways = (subst HasTrace (sym is) tt, tt);

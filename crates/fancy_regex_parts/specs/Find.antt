@@ -13,10 +13,12 @@ unfoldable pub attempted : (ℕ → Option ℕ) → List ℕ → ℕ
 attempted f [] = 0
 attempted f (p ∷ ps) = 1 + elim (f p) [ None ↦ attempted f ps | Some e ↦ 0 ]
 
--- the starts of a search: places of a text of whole characters, from this one on up to the last
-pub record AreStarts (text : List ℕ) (base from last : ℕ) : Type 0 where
+-- the starts of a search: places of a text of whole characters, from this one on up to the last; `lowest` is the least byte offset that
+-- a search from the first is asked about
+pub record AreStarts (text : List ℕ) (base from lowest last : ℕ) : Type 0 where
   pub utf8 : IsUtf8 text
-  pub place : IsPlace text base from
+  pub boundary : IsCharBoundary text from
+  pub low : base ≤ lowest
   pub order : from ≤ last
   pub inside : last ≤ length text
 

@@ -1,12 +1,13 @@
 -- The stack of a search in parts: what becomes of the answer that is found above it.
-use Rattle.std.specs.Prelude.{◌≡◌, ℕ, ◌+◌, ◌/◌, ◌%◌, ◌<◌, ◌≤◌, ◌⊎◌, true, false, List, [], ◌∷◌, ◌++◌, length, max, Option, Some, None, option_and_then, if◌then◌else◌, slice_index_or, IsCharBoundary}
+use Rattle.std.specs.Prelude.{◌≡◌, ℕ, ◌+◌, ◌-◌, ◌/◌, ◌%◌, ◌<◌, ◌≤◌, ◌⊎◌, true, false, List, [], ◌∷◌, ◌++◌, length, max, Option, Some, None, option_and_then, if◌then◌else◌, slice_index_or, IsCharBoundary}
 use Rattle.std.specs.Char.{len_utf8}
 use Rattle.fancy_regex_class.specs.declared.class.CharClassMatcher.{CharClassMatcher}
 use Rattle.fancy_regex_states.specs.CharTests.{leaf_matches_char, passes}
 use Rattle.fancy_regex_states.specs.declared.atom.Leaf.{Leaf}
 use Rattle.fancy_regex_states.specs.declared.rules.Rules.{Rules}
-use Rattle.fancy_regex_parts.specs.Ways.{Ways, or_else, if_asked, state_after, match_end}
-use Rattle.fancy_regex_parts.specs.Tables.{due}
+use Rattle.fancy_regex_parts.specs.Ways.{Ways, or_else, if_asked, state_after, place_after, match_end}
+use Rattle.fancy_regex_states.specs.Attempts.{NamesBelow}
+use Rattle.fancy_regex_parts.specs.Tables.{due, lowest_of, lowest_for}
 use Rattle.fancy_regex_parts.specs.Recall.{cell}
 use Rattle.fancy_regex_parts.specs.declared.frame.Frame.{Frame}
 use Rattle.fancy_regex_parts.specs.declared.frame.Frame.TheVariants.{Branch, Open, Ask, Atomic}
@@ -26,12 +27,18 @@ top_first (f ∷ fs) = top_first fs ++ f ∷ []
 abbrev pub step_frames : State → ℕ → List Frame → List Frame
 step_frames (S.Read leaf next) at frames = frames
 step_frames (S.Look check next) at frames = frames
+step_frames (S.Back next) at frames = frames
 step_frames (S.Split first second) at frames = Branch second at ∷ frames
 step_frames (S.Ask part negated next) at frames = Ask negated next at ∷ frames
 step_frames (S.Enter g next) at frames = frames
 step_frames (S.Leave g next) at frames = frames
 step_frames (S.Atomic part same moved) at frames = Atomic at same moved ∷ frames
 step_frames S.Match at frames = frames
+
+-- what is done next behind the character before
+abbrev pub back_task : ℕ → ℕ → Option ℕ → Task
+back_task next at None = Answer None
+back_task next at (Some c) = Visit next (at - len_utf8 c)
 
 module _ (matchers : List CharClassMatcher) (rules : Rules) where
   abbrev pub read_task : Leaf → ℕ → ℕ → Option ℕ → Task
@@ -43,6 +50,7 @@ module _ (matchers : List CharClassMatcher) (rules : Rules) where
   abbrev pub step_task : ℕ → ℕ → State → ℕ → Option ℕ → Option ℕ → Task
   step_task stop q (S.Read leaf next) at before after = read_task leaf next at after
   step_task stop q (S.Look check next) at before after = if passes matchers rules check before after then Visit next at else Answer None
+  step_task stop q (S.Back next) at before after = back_task next at before
   step_task stop q (S.Split first second) at before after = Visit first at
   step_task stop q (S.Ask part negated next) at before after = Visit part at
   step_task stop q (S.Enter g next) at before after = Visit next at
@@ -60,26 +68,38 @@ resume_task (Ask false next i) (Some e) = Visit next i
 resume_task (Ask true next i) None = Visit next i
 resume_task (Ask true next i) (Some e) = Answer None
 resume_task (Atomic i same moved) None = Answer None
-resume_task (Atomic i same moved) (Some e) = Visit (state_after i same moved e) e
+resume_task (Atomic i same moved) (Some e) = Visit (state_after i same moved e) (place_after i e)
 
 -- i is a place of the text from `base` on
 pub record IsPlace (text : List ℕ) (base i : ℕ) : Type 0 where
   pub low : base ≤ i
   pub boundary : IsCharBoundary text i
 
-module _ (text : List ℕ) (count base : ℕ) where
+-- q is a state, i a place, and a search from there is asked about no byte offset before `base`
+pub record IsInReach (table : PartTable) (text : List ℕ) (base q i : ℕ) : Type 0 where
+  pub state : q < length table.states.items
+  pub boundary : IsCharBoundary text i
+  pub low : base ≤ lowest_of table q i
+
+-- the same of all states that this one leads to at the place
+pub record IsLedInReach (table : PartTable) (text : List ℕ) (base : ℕ) (state : State) (i : ℕ) : Type 0 where
+  pub names : NamesBelow (length table.states.items) state
+  pub boundary : IsCharBoundary text i
+  pub low : base ≤ lowest_for table state i
+
+module _ (table : PartTable) (text : List ℕ) (base : ℕ) where
   abbrev pub IsFrameWithin : Frame → Type 0
-  IsFrameWithin (Branch q i) = (q < count) × IsPlace text base i
+  IsFrameWithin (Branch q i) = IsInReach table text base q i
   IsFrameWithin (Open k) = Unit {0}
-  IsFrameWithin (Ask negated next i) = (next < count) × IsPlace text base i
-  IsFrameWithin (Atomic i same moved) = (same < count) × (moved < count)
+  IsFrameWithin (Ask negated next i) = IsInReach table text base next i
+  IsFrameWithin (Atomic i same moved) = IsInReach table text base same i × IsInReach table text base moved i
 
   abbrev pub AllWithin : List Frame → Type 0
   AllWithin [] = Unit {0}
   AllWithin (f ∷ rest) = IsFrameWithin f × AllWithin rest
 
   abbrev pub IsTaskWithin : Task → Type 0
-  IsTaskWithin (Visit q i) = (q < count) × IsPlace text base i
+  IsTaskWithin (Visit q i) = IsInReach table text base q i
   IsTaskWithin (Answer None) = Unit {0}
   IsTaskWithin (Answer (Some e)) = IsPlace text base e
 
@@ -140,8 +160,8 @@ module _ (ways : Ways) (heads : List ℕ) (base : ℕ) where
   Resumes (Ask negated next i ∷ rest) answer goal =
       IsBelowOpen (ways.depth next i) rest × Resumes rest (if_asked negated answer (ways.end next i)) goal
   Resumes (Atomic i same moved ∷ rest) answer goal =
-      ((e : ℕ) → answer ≡ Some e → IsBelowOpen (ways.depth (state_after i same moved e) e) rest)
-      × Resumes rest (option_and_then (λ e. ways.end (state_after i same moved e) e) answer) goal
+      ((e : ℕ) → answer ≡ Some e → IsBelowOpen (ways.depth (state_after i same moved e) (place_after i e)) rest)
+      × Resumes rest (option_and_then (λ e. ways.end (state_after i same moved e) (place_after i e)) answer) goal
 
   abbrev pub task_end : Task → Option ℕ
   task_end (Visit q i) = ways.end q i

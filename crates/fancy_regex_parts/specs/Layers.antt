@@ -39,8 +39,8 @@ pub record IsOfText (context : PartContext) (text : List ℕ) (recall : Recall) 
 
 -- the task and the stack are of these states and this text
 pub record IsAtTask (context : PartContext) (text : List ℕ) (base : ℕ) (next : Task) (stack : List Frame) : Type 0 where
-  pub task : IsTaskWithin text (length context.table.now.states.items) base next
-  pub frames : AllWithin text (length context.table.now.states.items) base stack
+  pub task : IsTaskWithin context.table.now text base next
+  pub frames : AllWithin context.table.now text base stack
 
 -- A search can visit the state q at the place i: the table is right, the text is small, the memory is of both, and its frames are of
 -- these states and this text.

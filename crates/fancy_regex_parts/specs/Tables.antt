@@ -1,5 +1,5 @@
 -- A table of states with marks, and what a visit of each state costs.
-use Rattle.std.specs.Prelude.{◌≡◌, ℕ, ◌+◌, ◌-◌, ◌*◌, ◌%◌, ◌<◌, ◌≤◌, ◌||◌, Bool, true, false, List, length, Option, Some, None, max, sum_by, slice_index_or}
+use Rattle.std.specs.Prelude.{◌≡◌, ℕ, ◌+◌, ◌-◌, ◌*◌, ◌%◌, ◌^◌, ◌<◌, ◌≤◌, ◌||◌, Bool, true, false, List, length, Option, Some, None, max, min, sum_by, slice_index_or}
 use Rattle.fancy_regex_states.specs.Attempts.{NamesBelow}
 use Rattle.fancy_regex_states.specs.First.{state_at}
 use Rattle.fancy_regex_states.specs.declared.state.State.{State}
@@ -29,6 +29,7 @@ due table q = due_of (mark_of table q) (cost_of table q)
 abbrev pub owed : PartTable → State → ℕ
 owed table (S.Read leaf next) = due table next
 owed table (S.Look check next) = due table next
+owed table (S.Back next) = due table next
 owed table (Enter g next) = due table next
 owed table (Leave g next) = due table next
 owed table (Split first second) = due table first + due table second
@@ -52,6 +53,30 @@ cell_cost table k = cost_of table (slice_index_or table.heads.items (k % length 
 abbrev pub known_cost : PartTable → Recall → ℕ
 known_cost table recall = known_weight (cell_cost table) recall
 
+-- over how many characters a search from this state steps back at most, seen from its place; the last `usize` is no bound
+abbrev pub reach_of : PartTable → ℕ → ℕ
+reach_of table q = slice_index_or table.reaches.items q 0
+
+-- the least byte offset that such a search is asked about: a character has four bytes at most
+abbrev pub lowest_of : PartTable → ℕ → ℕ → ℕ
+lowest_of table q at = at - min (4 * reach_of table q) (2 ^ 64 - 1)
+
+-- what the reach of a state has to be at least, by those of the states that it leads to
+abbrev pub needed_reach_of : PartTable → State → ℕ
+needed_reach_of table (S.Read leaf next) = reach_of table next
+needed_reach_of table (S.Look check next) = reach_of table next
+needed_reach_of table (S.Back next) = min (reach_of table next + 1) (2 ^ 64 - 1)
+needed_reach_of table (Enter g next) = reach_of table next
+needed_reach_of table (Leave g next) = reach_of table next
+needed_reach_of table (Split first second) = max (reach_of table first) (reach_of table second)
+needed_reach_of table (Ask part negated next) = max (reach_of table part) (reach_of table next)
+needed_reach_of table (Atomic part same moved) = max (reach_of table part) (max (reach_of table same) (reach_of table moved))
+needed_reach_of table Match = 0
+
+-- the least byte offset that a search is asked about that goes on after this state
+abbrev pub lowest_for : PartTable → State → ℕ → ℕ
+lowest_for table state at = at - min (4 * needed_reach_of table state) (2 ^ 64 - 1)
+
 -- whether a way from this state may write a slot, by this list
 abbrev pub may_write : List Bool → ℕ → Bool
 may_write writes q = slice_index_or writes q true
@@ -60,6 +85,7 @@ may_write writes q = slice_index_or writes q true
 abbrev pub leads_to_write : List Bool → State → Bool
 leads_to_write writes (S.Read leaf next) = may_write writes next
 leads_to_write writes (S.Look check next) = may_write writes next
+leads_to_write writes (S.Back next) = may_write writes next
 leads_to_write writes (Enter g next) = true
 leads_to_write writes (Leave g next) = true
 leads_to_write writes (Split first second) = may_write writes first || may_write writes second
@@ -79,14 +105,31 @@ pub record IsRightAt (table : PartTable) (q : ℕ) : Type 0 where
   pub cheap : cost_of table q ≤ length table.states.items
   -- its cost is enough for it and those after it
   pub paid : owed table (state_at table.states.items q) + 1 ≤ cost_of table q
+  -- its reach is enough for those after it
+  pub reaches : needed_reach_of table (state_at table.states.items q) ≤ reach_of table q
   -- where no way from it writes, it leads to no state from which one may
   pub no_write : may_write table.writes.items q ≡ false → leads_to_write table.writes.items (state_at table.states.items q) ≡ false
 
--- all states are right, the parts weigh no more than there are states, and no marked state costs much more
+-- whether this state steps back over a character
+abbrev pub steps_back : State → Bool
+steps_back (S.Back next) = true
+steps_back _ = false
+
+-- none of these states steps back
+abbrev pub AreStill : List State → Type 0
+AreStill states = (q : ℕ) → q < length states → steps_back (state_at states q) ≡ false
+
+-- a search from a state steps back over no character where no state does
+abbrev pub IsStill : PartTable → Type 0
+IsStill table = AreStill table.states.items → (q : ℕ) → reach_of table q ≡ 0
+
+-- all states are right, the parts weigh no more than there are states, no marked state costs much more, and where no state steps back
+-- no reach is above 0
 pub record IsTable (table : PartTable) : Type 0 where
   pub right : (q : ℕ) → q < length table.states.items → IsRightAt table q
   pub light : table_weight table ≤ length table.states.items
   pub cheap : table.most ≤ length table.states.items + 1
+  pub still : IsStill table
 
 -- each of these states leads to states that are there
 abbrev pub AreClosed : List State → Type 0

@@ -6,10 +6,10 @@ use Rattle.fancy_regex_states.specs.First.{state_at}
 use Rattle.fancy_regex_states.specs.declared.state.State.{State}
 use Rattle.fancy_regex_states.specs.declared.state.State.TheVariants.{Split, Enter, Leave, Ask, Atomic, Match}
 use Rattle.fancy_regex_states.specs.declared.state.State.TheVariants as S
-use Rattle.fancy_regex_parts.specs.Ways.{Ways, ways_of, text_view, state_after}
-use Rattle.fancy_regex_parts.specs.Tables.{mark_of, due, owed, known_cost, table_weight}
+use Rattle.fancy_regex_parts.specs.Ways.{Ways, ways_of, text_view, state_after, place_after}
+use Rattle.fancy_regex_parts.specs.Tables.{mark_of, due, owed, known_cost, lowest_of, table_weight}
 use Rattle.fancy_regex_parts.specs.Recall.{cell, cell_number, IsSame, IsOpened}
-use Rattle.fancy_regex_parts.specs.Frames.{IsPlace, cell_depth}
+use Rattle.fancy_regex_parts.specs.Frames.{IsInReach, cell_depth}
 use Rattle.fancy_regex_parts.specs.Does.{DoWhat}
 use Rattle.fancy_regex_parts.specs.declared.recall.Recall.{Recall}
 use Rattle.fancy_regex_parts.specs.declared.step.PartContext.{PartContext}
@@ -57,32 +57,37 @@ abbrev pub read_tasks : ℕ → ℕ → Option ℕ → List WalkTask
 read_tasks next at None = []
 read_tasks next at (Some c) = Follow next (at + len_utf8 c) ∷ []
 
+abbrev pub back_tasks : ℕ → ℕ → Option ℕ → List WalkTask
+back_tasks next at None = []
+back_tasks next at (Some c) = Follow next (at - len_utf8 c) ∷ []
+
 abbrev pub branch_of : ℕ → ℕ → Option ℕ → ℕ
 branch_of first second None = second
 branch_of first second (Some e) = first
 
 abbrev pub group_tasks : ℕ → ℕ → ℕ → ℕ → Option ℕ → List WalkTask
 group_tasks part same moved at None = []
-group_tasks part same moved at (Some e) = if nat_le at e then Follow (state_after at same moved e) e ∷ Follow part at ∷ [] else []
+group_tasks part same moved at (Some e) = Follow (state_after at same moved e) (place_after at e) ∷ Follow part at ∷ []
 
-abbrev pub tasks_at : State → ℕ → Option ℕ → Option ℕ → List WalkTask
-tasks_at (S.Read leaf next) at after end = read_tasks next at after
-tasks_at (S.Look check next) at after end = Follow next at ∷ []
-tasks_at (Split first second) at after end = Follow (branch_of first second end) at ∷ []
-tasks_at (Enter g next) at after end = Follow next at ∷ Start g at ∷ []
-tasks_at (Leave g next) at after end = Follow next at ∷ End g at ∷ []
-tasks_at (Ask part false next) at after end = Follow next at ∷ Follow part at ∷ []
-tasks_at (Ask part true next) at after end = Follow next at ∷ []
-tasks_at (Atomic part same moved) at after end = group_tasks part same moved at end
-tasks_at Match at after end = []
+abbrev pub tasks_at : State → ℕ → Option ℕ → Option ℕ → Option ℕ → List WalkTask
+tasks_at (S.Read leaf next) at before after end = read_tasks next at after
+tasks_at (S.Look check next) at before after end = Follow next at ∷ []
+tasks_at (S.Back next) at before after end = back_tasks next at before
+tasks_at (Split first second) at before after end = Follow (branch_of first second end) at ∷ []
+tasks_at (Enter g next) at before after end = Follow next at ∷ Start g at ∷ []
+tasks_at (Leave g next) at before after end = Follow next at ∷ End g at ∷ []
+tasks_at (Ask part false next) at before after end = Follow next at ∷ Follow part at ∷ []
+tasks_at (Ask part true next) at before after end = Follow next at ∷ []
+tasks_at (Atomic part same moved) at before after end = group_tasks part same moved at end
+tasks_at Match at before after end = []
 
 abbrev pub part_end_of : Ways → State → ℕ → Option ℕ
 part_end_of ways (Split first second) at = ways.end first at
 part_end_of ways (Atomic part same moved) at = ways.end part at
 part_end_of ways _ at = None
 
-abbrev pub walk_tasks : Ways → Option ℕ → State → ℕ → List WalkTask
-walk_tasks ways after state at = tasks_at state at after (part_end_of ways state at)
+abbrev pub walk_tasks : Ways → Option ℕ → Option ℕ → State → ℕ → List WalkTask
+walk_tasks ways before after state at = tasks_at state at before after (part_end_of ways state at)
 
 -- where a state with this mark is met: whether it is met there for the first time
 abbrev pub IsMet : Recall → Recall → ℕ → Option ℕ → Bool → Type 0
@@ -99,16 +104,16 @@ pub record IsVisitedWithin (table : PartTable) (len base : ℕ) (visited : Recal
   pub base_is : visited.base ≡ base
   pub rows : visited.rows ≤ len - base + 1
 
--- q is a state, and i a place from `start` on, where a walk began
-pub record IsReached (table : PartTable) (text : List ℕ) (base start q i : ℕ) : Type 0 where
-  pub state : q < length table.states.items
-  pub place : IsPlace text base i
-  pub low : start ≤ i
+-- q is a state, and i a place from which neither the memory nor the walk, whose rows begin at `lowest`, is asked about a byte offset
+-- without a row
+pub record IsReached (table : PartTable) (text : List ℕ) (base lowest q i : ℕ) : Type 0 where
+  pub reach : IsInReach table text base q i
+  pub low : lowest ≤ lowest_of table q i
 
-module _ (table : PartTable) (text : List ℕ) (base start dear : ℕ) where
+module _ (table : PartTable) (text : List ℕ) (base lowest dear : ℕ) where
   -- the task is of a state and a place that the walk can come to, and what is due for the state is not more than `dear`
   pub record IsFollowed (q i : ℕ) : Type 0 where
-    pub reached : IsReached table text base start q i
+    pub reached : IsReached table text base lowest q i
     pub cheap : due table q ≤ dear
 
   abbrev pub IsTaskOf : WalkTask → Type 0
@@ -140,8 +145,8 @@ module _ (table : PartTable) where
 
   -- what following the state q at a place leaves to be done
   pub record AreLeft (text : List ℕ) (base q at : ℕ) (old new : List WalkTask) : Type 0 where
-    pub within : (start dear : ℕ) → start ≤ at → owed table (state_at table.states.items q) ≤ dear
-        → AllTasksWithin table text base start dear old → AllTasksWithin table text base start dear new
+    pub within : (lowest dear : ℕ) → lowest ≤ lowest_of table q at → owed table (state_at table.states.items q) ≤ dear
+        → AllTasksWithin table text base lowest dear old → AllTasksWithin table text base lowest dear new
     pub due_is : tasks_due new ≤ owed table (state_at table.states.items q) + tasks_due old
     pub few : length new ≤ length old + 2
 

@@ -1,5 +1,5 @@
 -- What parts do: where the first way from a state at a place ends.
-use Rattle.std.specs.Prelude.{◌≡◌, ℕ, ◌<◌, Bool, true, false, List, length, Option, Some, None, ◌&&◌, option_and_then, option_map, if◌then◌else◌, nat_lt, nat_eq, IsCharBoundary}
+use Rattle.std.specs.Prelude.{◌≡◌, ℕ, ◌-◌, ◌<◌, Bool, true, false, List, length, Option, Some, None, ◌&&◌, option_and_then, option_map, if◌then◌else◌, nat_lt, nat_eq, IsCharBoundary}
 use Rattle.fancy_regex_class.specs.declared.class.CharClassMatcher.{CharClassMatcher}
 use Rattle.fancy_regex_states.specs.Attempts.{View, AttemptResult, Continuation, ShowsAll}
 use Rattle.fancy_regex_states.specs.First.{state_at}
@@ -38,9 +38,13 @@ if_asked false None next = None
 if_asked true (Some e) next = None
 if_asked true None next = next
 
--- where it goes on after a part that began at i and ends at e: `same` where it matched the empty string, `moved` where it did not
+-- where it goes on after a part that began at i and ends at e, and at which place: at `moved` at the end, or at `same` at i where it
+-- moved nothing
 abbrev pub state_after : ℕ → ℕ → ℕ → ℕ → ℕ
 state_after i same moved e = if nat_lt i e then moved else same
+
+abbrev pub place_after : ℕ → ℕ → ℕ
+place_after i e = if nat_lt i e then e else i
 
 -- Where the final state of this number ends at i: there. The pattern's own, state 0, ends by `stop`.
 abbrev pub match_end : ℕ → ℕ → ℕ → Option ℕ
@@ -51,11 +55,12 @@ module _ (view : View) (ways : Ways) (stop q : ℕ) where
   abbrev pub first_way : State → ℕ → Option ℕ
   first_way (S.Read leaf next) i = if view.has leaf i then ways.end next (view.next i) else None
   first_way (S.Look check next) i = if view.holds check i then ways.end next i else None
+  first_way (S.Back next) i = option_and_then (λ bytes. ways.end next (i - bytes)) (view.back i)
   first_way (Enter g next) i = ways.end next i
   first_way (Leave g next) i = ways.end next i
   first_way (Split first second) i = or_else (ways.end first i) (ways.end second i)
   first_way (Ask part negated next) i = if_asked negated (ways.end part i) (ways.end next i)
-  first_way (Atomic part same moved) i = option_and_then (λ e. ways.end (state_after i same moved e) e) (ways.end part i)
+  first_way (Atomic part same moved) i = option_and_then (λ e. ways.end (state_after i same moved e) (place_after i e)) (ways.end part i)
   first_way Match i = match_end stop q i
 
 module _ (view : View) (ways : Ways) where
@@ -63,12 +68,13 @@ module _ (view : View) (ways : Ways) where
   abbrev pub Falls : State → ℕ → ℕ → Type 0
   Falls (S.Read leaf next) i d = view.has leaf i ≡ true → ways.depth next (view.next i) < d
   Falls (S.Look check next) i d = view.holds check i ≡ true → ways.depth next i < d
+  Falls (S.Back next) i d = (bytes : ℕ) → view.back i ≡ Some bytes → ways.depth next (i - bytes) < d
   Falls (Enter g next) i d = ways.depth next i < d
   Falls (Leave g next) i d = ways.depth next i < d
   Falls (Split first second) i d = (ways.depth first i < d) × (ways.depth second i < d)
   Falls (Ask part negated next) i d = (ways.depth part i < d) × (ways.depth next i < d)
   Falls (Atomic part same moved) i d =
-      (ways.depth part i < d) × ((e : ℕ) → ways.end part i ≡ Some e → ways.depth (state_after i same moved e) e < d)
+      (ways.depth part i < d) × ((e : ℕ) → ways.end part i ≡ Some e → ways.depth (state_after i same moved e) (place_after i e) < d)
   Falls Match i d = Unit {0}
 
 -- The view says what looks at the text show, and the states have these ways at each boundary of it.

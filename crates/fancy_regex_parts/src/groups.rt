@@ -3,14 +3,14 @@
 ghost use Rattle.std.specs.Prelude.{◌≡◌, ◌+◌, ◌-◌, ◌*◌, ◌^◌, ◌<◌, ◌≤◌, ◌∷◌, ◌++◌, ℕ, List, Some, length, max, min, replicate, IfOk, IfSome, OnOk};
 ghost use Rattle.std.specs.Char.{len_utf8};
 ghost use Rattle.fancy_regex_class.specs.Looks.{looked_text, look_count};
-ghost use Rattle.regex_hir.specs.Text.{char_at};
+ghost use Rattle.regex_hir.specs.Text.{char_at, char_before};
 ghost use Rattle.fancy_regex_states.specs.First.{state_at};
 ghost use Rattle.fancy_regex_states.specs.Attempts.{View, Continuation, Trace, NamesBelow};
 ghost use Rattle.fancy_regex_parts.specs.Ways.{ways_of};
-ghost use Rattle.fancy_regex_parts.specs.Tables.{IsTable, cost_from, cost_of, due, owed, known_cost};
-ghost use Rattle.fancy_regex_parts.specs.Frames.{IsPlace};
+ghost use Rattle.fancy_regex_parts.specs.Tables.{IsTable, cost_from, cost_of, due, owed, known_cost, lowest_of};
+ghost use Rattle.fancy_regex_parts.specs.Frames.{IsInReach, IsLedInReach, IsPlace};
 ghost use Rattle.fancy_regex_parts.specs.Layers.{CanAsk, ForTrueWays, IsTrueOf, IsWithinLooks, LeavesMemory};
-ghost use Rattle.fancy_regex_parts.specs.Walk.{IsReached, IsTried, apply, dearest, keep, last_first, walk_tasks, AllTasksWithin, part_end_of, IsArrival, AreLeft, tasks_at, read_tasks, group_tasks, branch_of, IsVisitedWithin, IsWalking, looks_left, work_left};
+ghost use Rattle.fancy_regex_parts.specs.Walk.{IsReached, IsTried, apply, dearest, keep, last_first, walk_tasks, AllTasksWithin, part_end_of, IsArrival, AreLeft, tasks_at, read_tasks, back_tasks, group_tasks, branch_of, IsVisitedWithin, IsWalking, looks_left, work_left};
 ghost use Rattle.fancy_regex_parts.specs.declared.groups.WalkTask.TheVariants.{Follow};
 
 use crate::memory::PartMemory;
@@ -67,19 +67,20 @@ pub fn walk(
     slots: &mut [usize],
 ) -> Result<(), AllocError>
     requires ready { CanAsk context.now text.old memory.old }
-    requires entry { context.now.entry < length context.now.table.now.states.items }
-    requires place { IsPlace (looked_text text.old) memory.old.recall.base start }
+    requires place { IsInReach context.now.table.now (looked_text text.old) memory.old.recall.base context.now.entry start }
     ensures written { OnOk result ((view : View) (go : ℕ → Continuation) → IsTried context.now (looked_text text.old) view go
         → IsTrueOf context.now (ways_of go) memory.old.recall
         → (t : Trace) → (go context.now.entry start).answer ≡ Some t
         → slots.new ≡ apply t.writes (replicate (length slots.old) (2 ^ 64 - 1))) }
     ensures leaves { LeavesMemory context.now text.old text.new memory.old memory.new }
     ensures at_most { OnOk result (look_count text.new ≤ look_count text.old + dearest context.now.table.now context.now.entry
-        * (due context.now.table.now context.now.entry + cost_from context.now.table.now (looked_text text.old) start + 1)
+        * (due context.now.table.now context.now.entry + cost_from context.now.table.now (looked_text text.old)
+        (lowest_of context.now.table.now context.now.entry start) + 1)
         + cost_from context.now.table.now (looked_text text.old) memory.old.recall.base) }
 {
     slots.fill(usize::MAX);
-    walked.visited.restart(context.table.heads.len(), start);
+    let lowest = context.table.lowest(context.entry, start);
+    walked.visited.restart(context.table.heads.len(), lowest);
     walked.tasks.clear();
     push(
         &mut walked.tasks,
@@ -187,10 +188,9 @@ fn follow(
     at: usize,
 ) -> Result<(), AllocError>
     requires ready { CanAsk context.now text.old memory.old }
-    requires state { q < length context.now.table.now.states.items }
-    requires place { IsPlace (looked_text text.old) memory.old.recall.base at }
+    requires place { IsInReach context.now.table.now (looked_text text.old) memory.old.recall.base q at }
     ensures tasks { OnOk result (ForTrueWays context.now text.old memory.old (λ ways. last_first tasks.new.items
-        ≡ walk_tasks ways (char_at (looked_text text.old) at) (state_at context.now.table.now.states.items q) at
+        ≡ walk_tasks ways (char_before (looked_text text.old) at) (char_at (looked_text text.old) at) (state_at context.now.table.now.states.items q) at
         ++ last_first tasks.old.items)) }
     ensures left { OnOk result (AreLeft context.now.table.now (looked_text text.old) memory.old.recall.base q at
         (last_first tasks.old.items) (last_first tasks.new.items)) }
@@ -199,8 +199,8 @@ fn follow(
 {
     let state = context.table.states[q];
     let end = part_end(context, text, memory, state, at)?;
-    let (_, after) = text.look(at);
-    leave_tasks(tasks, state, at, after, end)?;
+    let (before, after) = text.look(at);
+    leave_tasks(tasks, state, at, before, after, end)?;
     Ok(())
 }
 
@@ -214,8 +214,7 @@ fn part_end(
     at: usize,
 ) -> Result<Option<usize>, AllocError>
     requires ready { CanAsk context.now text.old memory.old }
-    requires names { NamesBelow (length context.now.table.now.states.items) state }
-    requires place { IsPlace (looked_text text.old) memory.old.recall.base at }
+    requires place { IsLedInReach context.now.table.now (looked_text text.old) memory.old.recall.base state at }
     ensures end { IfOk result (λ end. ForTrueWays context.now text.old memory.old (λ ways. end ≡ part_end_of ways state at)) }
     ensures place { IfOk result (λ end. IfSome end (IsPlace (looked_text text.old) memory.old.recall.base)) }
     ensures leaves { LeavesMemory context.now text.old text.new memory.old memory.new }
@@ -234,20 +233,23 @@ fn part_end(
     }
 }
 
-/// Leaves what is to be done at a state at the byte offset `at`, before the character `after`, and after it. `end` is that of
+/// Leaves what is to be done at a state at the byte offset `at`, between the characters `before` and `after`, and after it. `end` is that of
 /// `part_end`. The error is want of memory.
 fn leave_tasks(
     tasks: &mut Vec<WalkTask>,
     state: State,
     at: usize,
+    before: Option<char>,
     after: Option<char>,
     end: Option<usize>,
 ) -> Result<(), AllocError>
-    requires { IfSome after (λ c. at + len_utf8 c < 2 ^ 64) }
-    ensures { OnOk result (last_first tasks.new.items ≡ tasks_at state at after end ++ last_first tasks.old.items) }
+    requires after { IfSome after (λ c. at + len_utf8 c < 2 ^ 64) }
+    requires before { IfSome before (λ c. len_utf8 c ≤ at) }
+    ensures { OnOk result (last_first tasks.new.items ≡ tasks_at state at before after end ++ last_first tasks.old.items) }
 {
     match state {
         State::Read { next, .. } => leave_read(tasks, next, at, after),
+        State::Back { next } => leave_back(tasks, next, at, before),
         State::Look { next, .. }
         | State::Ask {
             negated: true,
@@ -300,6 +302,31 @@ fn leave_read(
     }
 }
 
+/// Leaves what follows a step back over the character before `at`. The error is want of memory.
+fn leave_back(
+    tasks: &mut Vec<WalkTask>,
+    next: usize,
+    at: usize,
+    before: Option<char>,
+) -> Result<(), AllocError>
+    requires { IfSome before (λ c. len_utf8 c ≤ at) }
+    ensures { OnOk result (last_first tasks.new.items ≡ back_tasks next at before ++ last_first tasks.old.items) }
+{
+    match before {
+        Some(c) => {
+            let place = at - c.len_utf8();
+            push(
+                tasks,
+                WalkTask::Follow {
+                    state: next,
+                    at: place,
+                },
+            )
+        }
+        None => Ok(()),
+    }
+}
+
 /// Leaves the part of an atomic group that began at `at`, and what follows where its way ends. The error is want of memory.
 fn leave_atomic(
     tasks: &mut Vec<WalkTask>,
@@ -312,12 +339,21 @@ fn leave_atomic(
     ensures { OnOk result (last_first tasks.new.items ≡ group_tasks part same moved at end ++ last_first tasks.old.items) }
 {
     match end {
-        Some(e) if at <= e => {
-            let state = if at < e { moved } else { same };
+        Some(e) => {
             push(tasks, WalkTask::Follow { state: part, at })?;
-            push(tasks, WalkTask::Follow { state, at: e })
+            if at < e {
+                push(
+                    tasks,
+                    WalkTask::Follow {
+                        state: moved,
+                        at: e,
+                    },
+                )
+            } else {
+                push(tasks, WalkTask::Follow { state: same, at })
+            }
         }
-        _ => Ok(()),
+        None => Ok(()),
     }
 }
 

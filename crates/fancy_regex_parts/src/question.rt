@@ -2,9 +2,9 @@
 
 ghost use Rattle.std.specs.Prelude.{◌≡◌, ◌+◌, ◌-◌, ◌*◌, ◌^◌, ◌<◌, ◌≤◌, ℕ, None, length, vec_len, slice_index, slice_index_or, IfOk, IfSome, OnOk};
 ghost use Rattle.fancy_regex_class.specs.Looks.{looked_text, look_count};
-ghost use Rattle.fancy_regex_parts.specs.Ways.{state_after};
+ghost use Rattle.fancy_regex_parts.specs.Ways.{state_after, place_after};
 ghost use Rattle.fancy_regex_parts.specs.Tables.{due, known_cost, cost_from};
-ghost use Rattle.fancy_regex_parts.specs.Frames.{IsPlace, resume_task};
+ghost use Rattle.fancy_regex_parts.specs.Frames.{IsInReach, IsPlace, resume_task};
 ghost use Rattle.fancy_regex_parts.specs.Layers.{CanAsk, ForTrueWays, IsPaid, IsResumed, IsTrueOf, IsWithinLooks, LeavesMemory};
 ghost use Rattle.fancy_regex_parts.specs.declared.frame.Task.TheVariants.{Visit};
 
@@ -50,10 +50,16 @@ fn resume(frame: Frame, end: Option<usize>, recall: &mut Recall) -> Task
 /// Continues after the part of an atomic group that began at `at` and ends at `end`.
 #[inline(always)]
 fn visit_after_atomic(at: usize, same: usize, moved: usize, end: usize) -> Task
-    ensures { result ≡ Visit (state_after at same moved end) end }
+    ensures { result ≡ Visit (state_after at same moved end) (place_after at end) }
 {
-    let state = if at < end { moved } else { same };
-    Task::Visit { state, at: end }
+    if at < end {
+        Task::Visit {
+            state: moved,
+            at: end,
+        }
+    } else {
+        Task::Visit { state: same, at }
+    }
 }
 
 /// The answer of `ask`. After an error pairs may be left open.
@@ -65,8 +71,7 @@ fn search(
     at: usize,
 ) -> Result<Option<usize>, AllocError>
     requires ready { CanAsk context.now text.old memory.old }
-    requires part { part < length context.now.table.now.states.items }
-    requires place { IsPlace (looked_text text.old) memory.old.recall.base at }
+    requires place { IsInReach context.now.table.now (looked_text text.old) memory.old.recall.base part at }
     ensures answer { IfOk result (λ end. ForTrueWays context.now text.old memory.old
         (λ ways. (end ≡ ways.end part at) × IsTrueOf context.now ways memory.new.recall)) }
     ensures stack { OnOk result (vec_len memory.new.stack ≡ 0) }
@@ -100,8 +105,7 @@ pub fn ask(
     at: usize,
 ) -> Result<Option<usize>, AllocError>
     requires ready { CanAsk context.now text.old memory.old }
-    requires part { part < length context.now.table.now.states.items }
-    requires place { IsPlace (looked_text text.old) memory.old.recall.base at }
+    requires place { IsInReach context.now.table.now (looked_text text.old) memory.old.recall.base part at }
     ensures answer { IfOk result (λ end. ForTrueWays context.now text.old memory.old (λ ways. end ≡ ways.end part at)) }
     ensures place { IfOk result (λ end. IfSome end (IsPlace (looked_text text.old) memory.old.recall.base)) }
     ensures leaves { LeavesMemory context.now text.old text.new memory.old memory.new }
@@ -131,8 +135,8 @@ pub fn ask_each(
     places: &[usize],
 ) -> Result<Vec<Option<usize>>, AllocError>
     requires ready { CanAsk context.now text.old memory.old }
-    requires part { part < length context.now.table.now.states.items }
-    requires places { (k : ℕ) → k < length places.now → IsPlace (looked_text text.old) memory.old.recall.base (slice_index places.now k) }
+    requires places { (k : ℕ) → k < length places.now
+        → IsInReach context.now.table.now (looked_text text.old) memory.old.recall.base part (slice_index places.now k) }
     ensures len { IfOk result (λ answers. length answers.items ≡ length places.now) }
     ensures answers { IfOk result (λ answers. ForTrueWays context.now text.old memory.old (λ ways. (k : ℕ) → k < length places.now
         → slice_index_or answers.items k None ≡ ways.end part (slice_index places.now k))) }

@@ -3,8 +3,8 @@
 ghost use Rattle.std.specs.Prelude.{◌≡◌, ◌+◌, ◌-◌, ◌*◌, ◌^◌, ◌<◌, ◌≤◌, length, min, IfOk, IfSome, OnOk, IsCharBoundary, IsUtf8};
 ghost use Rattle.fancy_regex_class.specs.Looks.{looked_text, look_count};
 ghost use Rattle.fancy_regex_meaning.specs.Positions.{boundaries};
-ghost use Rattle.fancy_regex_parts.specs.Tables.{due, cost_from};
-ghost use Rattle.fancy_regex_parts.specs.Frames.{IsPlace};
+ghost use Rattle.fancy_regex_parts.specs.Tables.{due, cost_from, lowest_of};
+ghost use Rattle.fancy_regex_parts.specs.Frames.{IsInReach};
 ghost use Rattle.fancy_regex_parts.specs.Layers.{CanAsk, ForTrueWays, IsLookedAtOnce, IsWithinLooks, LeavesMemory};
 ghost use Rattle.fancy_regex_parts.specs.Find.{earliest, attempted, failed_starts, tried, AreStarts, IsAfter};
 
@@ -29,10 +29,11 @@ pub fn find(
 ) -> Result<Option<(usize, usize)>, AllocError>
     requires ready { CanAsk context.now text.old memory.old }
     requires entry { context.now.entry < length context.now.table.now.states.items }
-    requires starts { AreStarts (looked_text text.old) memory.old.recall.base from last }
+    requires starts { AreStarts (looked_text text.old) memory.old.recall.base from (lowest_of context.now.table.now context.now.entry from) last }
     ensures found { IfOk result (λ found. ForTrueWays context.now text.old memory.old
         (λ ways. found ≡ earliest (ways.end context.now.entry) (boundaries (looked_text text.old) from last))) }
-    ensures place { IfOk result (λ found. IfSome found (λ span. IsPlace (looked_text text.old) memory.old.recall.base span.0)) }
+    ensures place { IfOk result (λ found. IfSome found (λ span.
+        IsInReach context.now.table.now (looked_text text.old) memory.old.recall.base context.now.entry span.0)) }
     ensures leaves { LeavesMemory context.now text.old text.new memory.old memory.new }
     ensures at_most { OnOk result (ForTrueWays context.now text.old memory.old (λ ways. look_count text.new ≤ look_count text.old
         + attempted (ways.end context.now.entry) (boundaries (looked_text text.old) from last)

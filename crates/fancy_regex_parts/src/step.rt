@@ -1,12 +1,12 @@
 //! One step of a search in parts.
 
-ghost use Rattle.std.specs.Prelude.{◌≡◌, ◌+◌, ◌^◌, ◌<◌, ◌∷◌, Some, length, IfOk, IfSome, OnOk, IsCharBoundary};
+ghost use Rattle.std.specs.Prelude.{◌≡◌, ◌+◌, ◌^◌, ◌<◌, ◌≤◌, ◌∷◌, Some, length, IfOk, IfSome, OnOk, IsCharBoundary};
 ghost use Rattle.std.specs.Char.{len_utf8};
 ghost use Rattle.regex_hir.specs.Text.{char_at, char_before};
 ghost use Rattle.fancy_regex_class.specs.Looks.{looked_text};
 ghost use Rattle.fancy_regex_parts.specs.Ways.{match_end};
 ghost use Rattle.fancy_regex_parts.specs.Tables.{mark_of, due};
-ghost use Rattle.fancy_regex_parts.specs.Frames.{pending, task_due, step_frames, step_task, read_task, top_first};
+ghost use Rattle.fancy_regex_parts.specs.Frames.{pending, task_due, step_frames, step_task, back_task, read_task, top_first};
 ghost use Rattle.fancy_regex_parts.specs.Layers.{IsLookedAtOnce, CanVisit, IsPaid, IsVisit};
 
 use crate::frame::{Frame, Task};
@@ -73,7 +73,8 @@ fn advance(
     place: Place,
     stack: &mut Vec<Frame>,
 ) -> Result<Task, AllocError>
-    requires { IfSome place.after (λ c. place.at + len_utf8 c < 2 ^ 64) }
+    requires after { IfSome place.after (λ c. place.at + len_utf8 c < 2 ^ 64) }
+    requires before { IfSome place.before (λ c. len_utf8 c ≤ place.at) }
     ensures task { IfOk result (λ task. task ≡
         step_task context.now.matchers.now context.now.rules context.now.stop q state place.at place.before place.after) }
     ensures frames { OnOk result (top_first stack.new.items ≡ step_frames state place.at (top_first stack.old.items)) }
@@ -94,6 +95,7 @@ fn advance(
                 Ok(Task::Answer(None))
             }
         }
+        State::Back { next } => Ok(step_back(next, at, place.before)),
         State::Split { first, second } => {
             push(stack, Frame::Branch { state: second, at })?;
             Ok(Task::Visit { state: first, at })
@@ -146,6 +148,21 @@ fn read(context: &PartContext, leaf: Leaf, next: usize, at: usize, after: Option
             at: at + c.len_utf8(),
         },
         _ => Task::Answer(None),
+    }
+}
+
+/// Steps back over the character before `at`, if there is one.
+#[inline(always)]
+fn step_back(next: usize, at: usize, before: Option<char>) -> Task
+    requires { IfSome before (λ c. len_utf8 c ≤ at) }
+    ensures { result ≡ back_task next at before }
+{
+    match before {
+        Some(c) => Task::Visit {
+            state: next,
+            at: at - c.len_utf8(),
+        },
+        None => Task::Answer(None),
     }
 }
 

@@ -1,7 +1,7 @@
 //! The states of parts, which of them are marked, and what it costs to try them.
 
-ghost use Rattle.std.specs.Prelude.{◌≡◌, ◌+◌, ◌-◌, ◌*◌, ◌^◌, ◌<◌, ◌≤◌, ◌↔◌, ℕ, true, false, Some, length, min, replicate, slice_index_or, IfOk, IfSome, IsSome};
-ghost use Rattle.fancy_regex_parts.specs.Tables.{AreClosed, may_write as may_write_is, leads_to_write as leads_to_write_is};
+ghost use Rattle.std.specs.Prelude.{◌≡◌, ◌+◌, ◌-◌, ◌*◌, ◌^◌, ◌<◌, ◌≤◌, ◌↔◌, ◌⊎◌, ℕ, true, false, Some, length, min, replicate, slice_index_or, IfOk, IfSome, IsSome};
+ghost use Rattle.fancy_regex_parts.specs.Tables.{AreClosed, AreStill, steps_back as steps_back_is, may_write as may_write_is, leads_to_write as leads_to_write_is};
 ghost use Rattle.fancy_regex_states.specs.First.{state_at};
 ghost use Rattle.fancy_regex_states.specs.Attempts.{NamesBelow};
 
@@ -22,13 +22,15 @@ pub struct PartTable {
     pub(crate) costs: Vec<usize>,
     /// No marked state costs more.
     pub(crate) most: usize,
+    /// For each state over how many characters a search that begins there steps back at most, seen from its place.
+    pub(crate) reaches: Vec<usize>,
     /// For each state whether a way from it may write a slot.
     pub(crate) writes: Vec<bool>,
 }
 
 impl PartTable {
     ghost use Rattle.fancy_regex_states.specs.First.{state_at};
-    ghost use Rattle.fancy_regex_parts.specs.Tables.{IsTable, IsRightAt, mark_of, cost_of, due as due_is, owed as owed_is, table_weight};
+    ghost use Rattle.fancy_regex_parts.specs.Tables.{AreStill, IsStill, IsTable, IsRightAt, mark_of, cost_of, due as due_is, owed as owed_is, lowest_of, needed_reach_of, reach_of, table_weight};
 
     /// The table of these states; `None` exactly where a state leads to one that is not there. Those to which two lead and the heads of
     /// loops are marked, or all where these do not do; no clause says which. The error is want of memory.
@@ -54,26 +56,30 @@ impl PartTable {
         states: Vec<State>,
         marked: &[bool],
     ) -> Result<PartTable, AllocError>
-        ensures { IfOk result (λ table. table.states.items ≡ states.items) }
+        ensures states { IfOk result (λ table. table.states.items ≡ states.items) }
+        ensures still { IfOk result (λ table. IsStill table) }
     {
         let (marks, heads) = numbered(alloc, marked)?;
         let writes = writing_states(alloc, &states)?;
-        let mut costs = Vec::new(alloc);
-        costs.resize(states.len(), 0)?;
+        let costs = copies(alloc, states.len(), 0)?;
+        let reaches = copies(alloc, states.len(), 0)?;
         let mut table = PartTable {
             states,
             marks,
             heads,
             costs,
             most: 0,
+            reaches,
             writes,
         };
         table.set_costs(false);
         table.set_costs(true);
+        table.set_reaches();
         Ok(table)
     }
 
-    /// The table of these states with a mark on each: to try one costs one look. The error is want of memory.
+    /// The table of these states with a mark on each: to try one costs one look. Where one steps back, each search steps back to the
+    /// text's start. The error is want of memory.
     fn all_marked(alloc: Global, states: Vec<State>) -> Result<PartTable, AllocError>
         requires { AreClosed states.items }
         ensures { IfOk result (λ table. IsTable table × (table.states.items ≡ states.items)) }
@@ -84,13 +90,16 @@ impl PartTable {
             marks.push(Some(q))?;
             heads.push(q)?;
         }
-        let costs = ones(alloc, states.len())?;
+        let costs = copies(alloc, states.len(), 1)?;
+        let reach = farthest_reach(&states);
+        let reaches = copies(alloc, states.len(), reach)?;
         Ok(PartTable {
             states,
             marks,
             heads,
             costs,
             most: 1,
+            reaches,
             writes: Vec::new(alloc),
         })
     }
@@ -171,6 +180,7 @@ impl PartTable {
         match state {
             State::Read { next, .. }
             | State::Look { next, .. }
+            | State::Back { next }
             | State::Enter { next, .. }
             | State::Leave { next, .. } => self.due(next),
             State::Split { first, second } => { self.due(first).saturating_add(self.due(second)) }
@@ -182,9 +192,79 @@ impl PartTable {
         }
     }
 
+    /// Over how many characters a search that begins at this state steps back at most; the last `usize` where that has no bound.
+    pub(crate) fn reach(&self, state: usize) -> usize
+        ensures { result ≡ reach_of self.now state }
+    {
+        match self.reaches.get(state) {
+            Some(reach) => *reach,
+            None => 0,
+        }
+    }
+
+    /// The least byte offset that a search is asked about that begins at this state at the byte offset `at`: a character has four bytes
+    /// at most.
+    pub fn lowest(&self, state: usize, at: usize) -> usize
+        ensures { result ≡ lowest_of self.now state at }
+    {
+        at.saturating_sub(self.reach(state).saturating_mul(4))
+    }
+
+    /// What the reach of this state has to be at least, by those of the states that it leads to.
+    fn needed_reach(&self, state: State) -> usize
+        ensures { result ≡ needed_reach_of self.now state }
+    {
+        match state {
+            State::Read { next, .. }
+            | State::Look { next, .. }
+            | State::Enter { next, .. }
+            | State::Leave { next, .. } => self.reach(next),
+            State::Back { next } => self.reach(next).saturating_add(1),
+            State::Split { first, second } => self.reach(first).max(self.reach(second)),
+            State::Ask { part, next, .. } => self.reach(part).max(self.reach(next)),
+            State::Atomic { part, same, moved } => {
+                let after = self.reach(same).max(self.reach(moved));
+                self.reach(part).max(after)
+            }
+            State::Match => 0,
+        }
+    }
+
+    /// Raises each reach to what it has to be by those of the states that it leads to; whether that changed any.
+    fn raise_reaches(&mut self) -> bool
+        ensures { self.new.states ≡ self.old.states }
+    {
+        let mut changed = false;
+        for q in 0..self.states.len() {
+            let needed = self.needed_reach(self.states[q]);
+            if q < self.reaches.len() && self.reaches[q] < needed {
+                self.reaches[q] = needed;
+                changed = true;
+            }
+        }
+        changed
+    }
+
+    /// Sets the reaches, which are 0 so far, if a state steps back: as many passes as loops are nested, and two more. Where states step
+    /// back in a circle they stay too low.
+    fn set_reaches(&mut self)
+        ensures states { self.new.states ≡ self.old.states }
+        ensures still { AreStill self.old.states.items → self.new.reaches ≡ self.old.reaches }
+    {
+        if !step_back(&self.states) {
+            return;
+        }
+        'passes: for _pass in 0..self.states.len() {
+            if !self.raise_reaches() {
+                return;
+            }
+        }
+    }
+
     /// Sets the costs of the states that are marked, or of those that are not.
     fn set_costs(&mut self, marked: bool)
-        ensures { self.new.states ≡ self.old.states }
+        ensures states { self.new.states ≡ self.old.states }
+        ensures reaches { self.new.reaches ≡ self.old.reaches }
     {
         for q in 0..self.states.len() {
             if self.mark(q).is_some() == marked && q < self.costs.len() {
@@ -211,6 +291,9 @@ impl PartTable {
             return false;
         }
         if cost > self.states.len() {
+            return false;
+        }
+        if self.reach(q) < self.needed_reach(state) {
             return false;
         }
         if !self.is_right_of_writes(q, state) {
@@ -241,6 +324,7 @@ impl PartTable {
 
     /// Whether all states are right, and neither the parts weigh more than there are states, nor one marked state costs more.
     fn is_right(&self) -> bool
+        requires { IsStill self.now }
         ensures { result ≡ true → IsTable self.now }
     {
         for q in 0..self.states.len() {
@@ -263,6 +347,7 @@ fn names_below(state: State, count: usize) -> bool
     match state {
         State::Read { next, .. }
         | State::Look { next, .. }
+        | State::Back { next }
         | State::Enter { next, .. }
         | State::Leave { next, .. } => next < count,
         State::Split { first, second } => first < count && second < count,
@@ -295,6 +380,38 @@ fn leads_inside(states: &[State], q: usize) -> bool
     names_below(state, states.len())
 }
 
+/// Whether one of these states steps back over a character.
+fn step_back(states: &[State]) -> bool
+    ensures still { result ≡ false → AreStill states.now }
+    ensures other { result ≡ true → AreStill states.now → ⊥ }
+{
+    for q in 0..states.len() {
+        if steps_back(states, q) {
+            return true;
+        }
+    }
+    false
+}
+
+/// A reach that is enough for each of these states: 0 where none steps back, else the last `usize`.
+fn farthest_reach(states: &[State]) -> usize
+    ensures far { (result ≡ 2 ^ 64 - 1) ⊎ (AreStill states.now × (result ≡ 0)) }
+    ensures still { AreStill states.now → result ≡ 0 }
+{
+    if step_back(states) { usize::MAX } else { 0 }
+}
+
+/// Whether the state of this number steps back over a character.
+fn steps_back(states: &[State], q: usize) -> bool
+    requires { q < length states.now }
+    ensures { result ≡ steps_back_is (state_at states.now q) }
+{
+    match states[q] {
+        State::Back { .. } => true,
+        _ => false,
+    }
+}
+
 /// Whether a way from this state may write a slot, by this list.
 #[inline(always)]
 fn may_write(writes: &[bool], state: usize) -> bool
@@ -314,6 +431,7 @@ fn leads_to_write(writes: &[bool], state: State) -> bool
         State::Enter { .. } | State::Leave { .. } => true,
         State::Read { next, .. }
         | State::Look { next, .. }
+        | State::Back { next }
         | State::Ask {
             negated: true,
             next,
@@ -371,6 +489,7 @@ fn note_edges(marked: &mut [bool], entered: &mut [bool], from: usize, state: Sta
     match state {
         State::Read { next, .. }
         | State::Look { next, .. }
+        | State::Back { next }
         | State::Enter { next, .. }
         | State::Leave { next, .. } => note_edge(marked, entered, from, next),
         State::Split { first, second } => {
@@ -405,13 +524,13 @@ fn note_edge(marked: &mut [bool], entered: &mut [bool], from: usize, to: usize) 
     }
 }
 
-/// A cost of one look for each of so many states. The error is want of memory.
-fn ones(alloc: Global, count: usize) -> Result<Vec<usize>, AllocError>
-    ensures { IfOk result (λ costs. costs.items ≡ replicate count 1) }
+/// The same number for each of so many states. The error is want of memory.
+fn copies(alloc: Global, count: usize, value: usize) -> Result<Vec<usize>, AllocError>
+    ensures { IfOk result (λ numbers. numbers.items ≡ replicate count value) }
 {
-    let mut costs = Vec::new(alloc);
-    costs.resize(count, 1)?;
-    Ok(costs)
+    let mut numbers = Vec::new(alloc);
+    numbers.resize(count, value)?;
+    Ok(numbers)
 }
 
 /// The marks of states, and the state of each mark, where these are to be marked. The error is want of memory.

@@ -1,5 +1,5 @@
 -- Exactly which patterns are searched by states with parts.
-use Rattle.std.proofs.Common.{◌≡◌, ◌∙◌, ℕ, ◌<◌, ◌≤◌, Bool, true, false, List, [], ◌∷◌, length, refl, sym, subst, ⊎_elim}
+use Rattle.std.proofs.Common.{◌≡◌, ◌∙◌, ℕ, ◌<◌, ◌≤◌, Bool, true, false, List, [], ◌∷◌, length, None, refl, sym, subst, ⊎_elim}
 use Rattle.fancy_regex_tree.specs.Tree.{Tree}
 use Rattle.fancy_regex_meaning.specs.Groups.{Pattern}
 use Rattle.fancy_regex_class.specs.declared.class.CharClassMatcher.{CharClassMatcher}
@@ -16,7 +16,7 @@ use Rattle.fancy_regex_regular.specs.Supported.{IsSupported}
 
 -- nothing can be read
 blind : View
-blind = record { has = λ leaf i. false; next = λ i. i; holds = λ test i. false; longest = false; has_parts = true }
+blind = record { has = λ leaf i. false; next = λ i. i; back = λ i. None; holds = λ test i. false; longest = false; has_parts = true }
 
 module _ (unicode : Bool) (states : List State) (entry : ℕ) (matchers : List CharClassMatcher) (pattern : Pattern)
     (is : AreRegularStates unicode states entry matchers pattern) where

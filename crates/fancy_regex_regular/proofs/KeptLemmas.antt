@@ -12,7 +12,7 @@ use Rattle.fancy_regex_parts.specs.Ways.{Ways, Explains}
 use Rattle.fancy_regex_parts.specs.declared.recall.Recall.{Recall}
 use Rattle.fancy_regex_parts.specs.declared.memory.PartMemory.{PartMemory}
 use Rattle.fancy_regex_parts.specs.declared.step.PartContext.{PartContext}
-use Rattle.fancy_regex_regular.specs.Regulars.{IsContextOf}
+use Rattle.fancy_regex_regular.specs.Regulars.{IsContextOf, lowest_asked}
 use Rattle.fancy_regex_regular.specs.Inputs.{IsOfInput, MemoryServes}
 use Rattle.fancy_regex_regular.specs.Kept.{kept_rules, AreTrue, IsTrueFor, IsKeptOf, IsReady}
 use Rattle.fancy_regex_regular.specs.declared.memory.Kept.{Kept}
@@ -39,11 +39,11 @@ module _ (regular : Regular) (text : List ℕ) (input : RunInput) (context : Par
   has_ways kept of view ways explains =
       rw (is.table_is, is.matchers_are, is.rules_are, is.stop_is) (rw (of.stop, of.no_start_text, of.no_end_text) at explains)
 
-  served : (o : Option Kept) (memory : RegularMemory) → memory.kept ≡ o → MemoryServes o input → IfSome o (IsTrueFor regular text memory.parts)
+  served : (o : Option Kept) (memory : RegularMemory) → memory.kept ≡ o → MemoryServes o input (lowest_asked regular input) → IfSome o (IsTrueFor regular text memory.parts)
       → IsReady context text input memory
   served None memory same serves is_true = absurd serves
   served (Some kept) memory same serves is_true = record {
-    low = omega (arith, is_true.first, serves.low);
+    low = rw (is.table_is, is.entry_is) (omega (arith, is_true.first, serves.low));
     stack = is_true.stack;
     of_text = record {
       width = is_true.width ∙ ap (λ table. length table.heads.items) (sym is.table_is);
@@ -58,7 +58,7 @@ module _ (regular : Regular) (text : List ℕ) (input : RunInput) (context : Par
   }
 
   -- what serves this search can be asked in it
-  pub ready_of : (memory : RegularMemory) → MemoryServes memory.kept input → IsKeptOf regular text memory → IsReady context text input memory
+  pub ready_of : (memory : RegularMemory) → MemoryServes memory.kept input (lowest_asked regular input) → IsKeptOf regular text memory → IsReady context text input memory
   ready_of memory serves is_kept = served memory.kept memory refl serves is_kept
 
   -- what is true of this search's states is kept

@@ -9,22 +9,20 @@ use Rattle.fancy_regex_tree.specs.declared.expr.LookAround.TheVariants as L
 use Rattle.fancy_regex_meaning.specs.Groups.{Pattern, group_count}
 use Rattle.fancy_regex_meaning.specs.Sizes.{may_be_empty, branch_gaps}
 use Rattle.fancy_regex_meaning.specs.Sizes as sizes
-use Rattle.fancy_regex_states.specs.declared.atom.Leaf.{Leaf}
-use Rattle.fancy_regex_states.specs.declared.atom.Test.{Test}
 use Rattle.fancy_regex_states.specs.declared.state.State.{State}
 use Rattle.fancy_regex_states.specs.declared.state.State.TheVariants.{Match as End}
 use Rattle.fancy_regex_linear.specs.Re.{Re}
 use Rattle.fancy_regex_linear.specs.Re as re
 use Rattle.fancy_regex_linear.specs.Meaning.{is_unbounded}
 use Rattle.fancy_regex_linear.specs.Program.{emitted, weight, repeat_weight}
-use Rattle.fancy_regex_linear.specs.Plain.{IsRegular, AreRegular, IsOneChar, test_of, newline_re, served, asking, looked, look_test, char_leaf, has_no_iteration, unless, classes, re_of, row_of, branches_of}
+use Rattle.fancy_regex_linear.specs.Plain.{IsRegular, AreRegular, test_of, newline_re, served, joined, is_negated_look, steps_back, has_no_iteration, unless, classes, re_of, row_of, branches_of, around, each_around}
 use Rattle.fancy_regex_linear.proofs.WeightLemmas.{emitted_weighs}
 use Rattle.fancy_regex_class.specs.declared.input.RunInput.{RunInput}
 use Rattle.fancy_regex_parts.specs.Tables.{cost_of, cost_from, mark_of, due, due_of, table_weight}
 use Rattle.fancy_regex_parts.specs.Walk.{dearest}
 use Rattle.fancy_regex_regular.specs.Regulars.{IsRegularOf}
 use Rattle.fancy_regex_regular.specs.Starts.{last_start}
-use Rattle.fancy_regex_regular.specs.Weights.{assertion_weight, state_weight, state_weights, tree_state_weight}
+use Rattle.fancy_regex_regular.specs.Weights.{assertion_weight, steps_of, each_steps, stepping_weight, state_weight, state_weights, tree_state_weight}
 use Rattle.fancy_regex_regular.specs.declared.regular.Regular.{Regular}
 
 served_light : (a : Assertion) → weight (served a (test_of a)) ≤ 2 * assertion_weight a
@@ -38,33 +36,51 @@ unfolding weight
 newline_light true = omega arith
 newline_light false = omega arith
 
--- a look-around: an assertion, or a part that is asked
-asking_light : (how : LookAround) (body : Re) → weight (asking how body) ≤ weight body + 2
+-- a part that is asked so many characters before
+asked_light : (negated : Bool) (back : ℕ) (body : Re) (w steps : ℕ) → weight body ≤ 2 * w → back ≤ steps
+    → weight (re.ask negated back body) ≤ 2 * (1 + w + steps)
 unfolding weight
-asking_light L.LookAhead body = omega arith
-asking_light L.LookAheadNeg body = omega arith
-asking_light L.LookBehind body = omega arith
-asking_light L.LookBehindNeg body = omega arith
+asked_light negated back body w steps light few = omega (arith, light, few)
 
-tested_light : (t : Test) (n : ℕ) → weight (re.test t) ≤ n + 2
+-- a look-around over anything but branches
+asking_light : (unicode : Bool) (groups : List Tree) (n k : ℕ) (how : LookAround) (t : Tree) → steps_of groups t ≡ (sizes.size groups t).least
+    → weight (re_of unicode groups n k t) ≤ 2 * state_weight groups t
+    → weight (re.ask (is_negated_look how) (steps_back groups how t) (re_of unicode groups n k t))
+    ≤ 2 * (1 + state_weight groups t + stepping_weight groups how t)
+asking_light unicode groups n k L.LookAhead t same light =
+    asked_light false 0 (re_of unicode groups n k t) (state_weight groups t) 0 light (omega arith)
+asking_light unicode groups n k L.LookAheadNeg t same light =
+    asked_light true 0 (re_of unicode groups n k t) (state_weight groups t) 0 light (omega arith)
+asking_light unicode groups n k L.LookBehind t same light =
+    asked_light false (sizes.size groups t).least (re_of unicode groups n k t) (state_weight groups t) (steps_of groups t) light (omega (arith, same))
+asking_light unicode groups n k L.LookBehindNeg t same light =
+    asked_light true (sizes.size groups t).least (re_of unicode groups n k t) (state_weight groups t) (steps_of groups t) light (omega (arith, same))
+
+-- a look-around over branches: all of them at once, or each on its own
+joined_light : (always negated : Bool) (xs : List Re) (back : ℕ) (body : Re) (w each : ℕ) → weight body ≤ 2 * w
+    → weight (re.cats xs) ≤ 2 * (1 + w + each) → weight (re.alts xs) ≤ 2 * (1 + w + each)
+    → weight (if not always then joined negated xs else re.ask negated back body) ≤ 2 * (1 + w + (if always then back else each))
+joined_light true negated xs back body w each light all one = asked_light negated back body w back light (omega arith)
+joined_light false true xs back body w each light all one = all
+joined_light false false xs back body w each light all one = one
+
+cats_cons : (x : Re) (xs : List Re) → weight (re.cats (x ∷ xs)) ≡ weight x + weight (re.cats xs)
 unfolding weight
-tested_light t n = omega arith
+cats_cons x xs = refl
 
-looked_light : (how : LookAround) (leaf : Option Leaf) (body : Re) → weight (looked how leaf body) ≤ weight body + 2
-looked_light how None body = asking_light how body
-looked_light how (Some leaf) body = tested_light (look_test how leaf) (weight body)
+cats_one : (x : Re) → weight (re.cats (x ∷ [])) ≡ weight x
+unfolding weight
+cats_one x = omega arith
+
+alts_cons : (x y : Re) (ys : List Re) → weight (re.alts (x ∷ y ∷ ys)) ≡ weight x + weight (re.alts (y ∷ ys)) + 3
+unfolding weight
+alts_cons x y ys = refl
 
 -- a repeat that is left out
 out_light : (b : Bool) (x : Re) (n : ℕ) → weight x ≤ n → weight (unless b x) ≤ n
 unfolding weight
 out_light true x n h = omega arith
 out_light false x n h = h
-
-one_char_regular : (t : Tree) → IsOneChar t → IsRegular t
-one_char_regular (any newline crlf) p = tt
-one_char_regular (literal val casei) p = tt
-one_char_regular (delegate class casei) p = tt
-one_char_regular _ p = absurd p
 
 module _ (unicode : Bool) (groups : List Tree) where
   -- a repeat of what weighs at most twice as much
@@ -78,7 +94,7 @@ module _ (unicode : Bool) (groups : List Tree) where
       omega (arith, mul-le-mul_left lo h, mul-le-mul_left (hi - lo) more)
 
   mutual
-    unfolding re_of weight state_weight branch_gaps
+    unfolding re_of around each_around weight state_weight branch_gaps steps_of each_steps
 
     regular_light : (n k : ℕ) (t : Tree) → IsRegular t → weight (re_of unicode groups n k t) ≤ 2 * state_weight groups t
     regular_light n k empty p = omega arith
@@ -90,14 +106,7 @@ module _ (unicode : Bool) (groups : List Tree) where
     regular_light n k (concat ts) p = omega (arith, regular_row n k ts p)
     regular_light n k (alt ts) p = regular_branches n k ts p.0 p.1
     regular_light n k (group t) p = omega (arith, regular_light (n + 1) k t p)
-    regular_light n k (look_around t L.LookAhead) p =
-        omega (arith, looked_light L.LookAhead (char_leaf unicode k t) (re_of unicode groups n k t), regular_light n k t p)
-    regular_light n k (look_around t L.LookAheadNeg) p =
-        omega (arith, looked_light L.LookAheadNeg (char_leaf unicode k t) (re_of unicode groups n k t), regular_light n k t p)
-    regular_light n k (look_around t L.LookBehind) p =
-        omega (arith, looked_light L.LookBehind (char_leaf unicode k t) (re_of unicode groups n k t), regular_light n k t (one_char_regular t p))
-    regular_light n k (look_around t L.LookBehindNeg) p =
-        omega (arith, looked_light L.LookBehindNeg (char_leaf unicode k t) (re_of unicode groups n k t), regular_light n k t (one_char_regular t p))
+    regular_light n k (look_around t how) p = around_light n k how t p (regular_light n k t p)
     regular_light n k (atomic_group t) p = omega (arith, regular_light n k t p)
     regular_light n k (conditional c a b) p =
         omega (
@@ -123,6 +132,64 @@ module _ (unicode : Bool) (groups : List Tree) where
     regular_branches n k (more_trees t no_trees) some p = omega (arith, regular_light n k t p.0)
     regular_branches n k (more_trees t (more_trees u us)) some p =
         omega (arith, regular_light n k t p.0, regular_branches (n + group_count t) (k + length (classes t)) (more_trees u us) (λ e. cc) p.1)
+
+    -- a look-around over a tree
+    around_light : (n k : ℕ) (how : LookAround) (t : Tree) → IsRegular t → weight (re_of unicode groups n k t) ≤ 2 * state_weight groups t
+        → weight (around unicode groups n k how (re_of unicode groups n k t) t) ≤ 2 * (1 + state_weight groups t + stepping_weight groups how t)
+    around_light n k L.LookAhead (alt ts) p light = asked_light false 0 (re_of unicode groups n k (alt ts)) (state_weight groups (alt ts)) 0 light (omega arith)
+    around_light n k L.LookAheadNeg (alt ts) p light = asked_light true 0 (re_of unicode groups n k (alt ts)) (state_weight groups (alt ts)) 0 light (omega arith)
+    around_light n k L.LookBehind (alt ts) p light =
+        joined_light (sizes.size groups (alt ts)).always false (each_around unicode groups n k L.LookBehind ts) (sizes.size groups (alt ts)).least
+        (re_of unicode groups n k (alt ts)) (state_weight groups (alt ts)) (each_steps groups ts) light
+        (each_cats n k L.LookBehind (λ t. refl) ts p.0 p.1) (each_alts n k L.LookBehind (λ t. refl) ts p.0 p.1)
+    around_light n k L.LookBehindNeg (alt ts) p light =
+        joined_light (sizes.size groups (alt ts)).always true (each_around unicode groups n k L.LookBehindNeg ts) (sizes.size groups (alt ts)).least
+        (re_of unicode groups n k (alt ts)) (state_weight groups (alt ts)) (each_steps groups ts) light
+        (each_cats n k L.LookBehindNeg (λ t. refl) ts p.0 p.1) (each_alts n k L.LookBehindNeg (λ t. refl) ts p.0 p.1)
+    around_light n k how empty p light = asking_light unicode groups n k how empty refl light
+    around_light n k how (any newline crlf) p light = omega arith
+    around_light n k how (literal val casei) p light = omega arith
+    around_light n k how (delegate class casei) p light = omega arith
+    around_light n k how (general_newline wide) p light = asking_light unicode groups n k how (general_newline wide) refl light
+    around_light n k how (assertion a) p light = asking_light unicode groups n k how (assertion a) refl light
+    around_light n k how (concat ts) p light = asking_light unicode groups n k how (concat ts) refl light
+    around_light n k how (group t) p light = asking_light unicode groups n k how (group t) refl light
+    around_light n k how (look_around t inner) p light = asking_light unicode groups n k how (look_around t inner) refl light
+    around_light n k how (atomic_group t) p light = asking_light unicode groups n k how (atomic_group t) refl light
+    around_light n k how (conditional c a b) p light = asking_light unicode groups n k how (conditional c a b) refl light
+    around_light n k how (define_group t) p light = asking_light unicode groups n k how (define_group t) refl light
+    around_light n k how (verb v) p light = asking_light unicode groups n k how (verb v) refl light
+    around_light n k how (repeat t lo hi greedy) p light = asking_light unicode groups n k how (repeat t lo hi greedy) refl light
+    around_light n k how _ p light = absurd p
+
+    each_cats : (n k : ℕ) (how : LookAround) → ((t : Tree) → stepping_weight groups how t ≡ steps_of groups t) → (ts : Trees) → (ts ≢ no_trees) → AreRegular ts
+        → weight (re.cats (each_around unicode groups n k how ts)) ≤ 2 * (1 + (state_weights groups ts + 3 * branch_gaps groups ts) + each_steps groups ts)
+    each_cats n k how is no_trees some p = absurd (some refl)
+    each_cats n k how is (more_trees t no_trees) some p =
+        let here = around_light n k how t p.0 (regular_light n k t p.0) in
+        omega (arith, here, is t, cats_one (around unicode groups n k how (re_of unicode groups n k t) t))
+    each_cats n k how is (more_trees t (more_trees u us)) some p =
+        let here = around_light n k how t p.0 (regular_light n k t p.0) in
+        let later = each_cats (n + group_count t) (k + length (classes t)) how is (more_trees u us) (λ e. cc) p.1 in
+        omega (
+          arith,
+          here,
+          is t,
+          later,
+          cats_cons (around unicode groups n k how (re_of unicode groups n k t) t)
+              (each_around unicode groups (n + group_count t) (k + length (classes t)) how (more_trees u us)),
+        )
+
+    each_alts : (n k : ℕ) (how : LookAround) → ((t : Tree) → stepping_weight groups how t ≡ steps_of groups t) → (ts : Trees) → (ts ≢ no_trees) → AreRegular ts
+        → weight (re.alts (each_around unicode groups n k how ts)) ≤ 2 * (1 + (state_weights groups ts + 3 * branch_gaps groups ts) + each_steps groups ts)
+    each_alts n k how is no_trees some p = absurd (some refl)
+    each_alts n k how is (more_trees t no_trees) some p =
+        let here = around_light n k how t p.0 (regular_light n k t p.0) in
+        omega (arith, here, is t)
+    each_alts n k how is (more_trees t (more_trees u us)) some p =
+        let here = around_light n k how t p.0 (regular_light n k t p.0) in
+        let later = each_alts (n + group_count t) (k + length (classes t)) how is (more_trees u us) (λ e. cc) p.1 in
+        omega (arith, here, is t, later)
 
 -- A regular pattern has fewer states than twice its weight as states.
 pub states_light : (unicode : Bool) (states : List State) (entry : ℕ) (pattern : Pattern) → IsRegular pattern.tree

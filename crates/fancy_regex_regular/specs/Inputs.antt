@@ -1,5 +1,5 @@
 -- What of an input the answers of parts depend on.
-use Rattle.std.specs.Prelude.{◌≡◌, ◌≤◌, Option, Some, None}
+use Rattle.std.specs.Prelude.{◌≡◌, ◌≤◌, ℕ, Option, Some, None}
 use Rattle.fancy_regex_class.specs.declared.input.RunInput.{RunInput}
 use Rattle.fancy_regex_regular.specs.declared.memory.Kept.{Kept}
 
@@ -9,12 +9,12 @@ pub record IsOfInput (kept : Kept) (input : RunInput) : Type 0 where
   pub no_start_text : kept.no_start_text ≡ input.no_start_text
   pub no_end_text : kept.no_end_text ≡ input.no_end_text
 
--- and the search asks about no byte offset before the first
-pub record Serves (kept : Kept) (input : RunInput) : Type 0 where
-  pub low : kept.first ≤ input.first
+-- and the search, which asks about no byte offset before `lowest`, asks about none before the first
+pub record Serves (kept : Kept) (input : RunInput) (lowest : ℕ) : Type 0 where
+  pub low : kept.first ≤ lowest
   pub input_is : IsOfInput kept input
 
 -- something is kept, and serves a search with this input
-abbrev pub MemoryServes : Option Kept → RunInput → Type 0
-MemoryServes None input = ⊥
-MemoryServes (Some kept) input = Serves kept input
+abbrev pub MemoryServes : Option Kept → RunInput → ℕ → Type 0
+MemoryServes None input lowest = ⊥
+MemoryServes (Some kept) input lowest = Serves kept input lowest

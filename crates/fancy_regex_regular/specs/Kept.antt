@@ -6,6 +6,7 @@ use Rattle.fancy_regex_states.specs.declared.rules.Rules.{Rules}
 use Rattle.fancy_regex_parts.specs.Frames.{EndsWithin, cell_end}
 use Rattle.fancy_regex_parts.specs.Layers.{HasWays, IsOfText, IsTrueOf}
 use Rattle.fancy_regex_parts.specs.Recall.{cell}
+use Rattle.fancy_regex_parts.specs.Tables.{lowest_of}
 use Rattle.fancy_regex_parts.specs.Ways.{Ways, Explains}
 use Rattle.fancy_regex_parts.specs.declared.recall.Recall.{Recall}
 use Rattle.fancy_regex_parts.specs.declared.memory.PartMemory.{PartMemory}
@@ -46,7 +47,7 @@ IsKeptOf regular text memory = IfSome memory.kept (IsTrueFor regular text memory
 
 -- the memory can be asked in a search with this input
 pub record IsReady (context : PartContext) (text : List ℕ) (input : RunInput) (memory : RegularMemory) : Type 0 where
-  pub low : memory.parts.recall.base ≤ input.first
+  pub low : memory.parts.recall.base ≤ lowest_of context.table.now context.entry input.first
   pub stack : vec_len memory.parts.stack ≡ 0
   pub of_text : IsOfText context text memory.parts.recall
   pub remembers : (view : View) (ways : Ways) → HasWays context text view ways → IsTrueOf context ways memory.parts.recall

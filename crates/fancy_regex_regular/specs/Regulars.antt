@@ -1,16 +1,17 @@
 -- Which pattern a regular one is of, and what its searches answer.
-use Rattle.std.specs.Prelude.{◌≡◌, ◌+◌, ◌-◌, ◌*◌, ◌≤◌, ℕ, false, not, List, Option, length, option_map, ◌==◌}
+use Rattle.std.specs.Prelude.{◌≡◌, ◌+◌, ◌-◌, ◌*◌, ◌≤◌, ℕ, false, not, List, Option, length, option_map, if◌then◌else◌, ◌==◌}
 use Rattle.fancy_regex_meaning.specs.Groups.{Pattern}
 use Rattle.fancy_regex_meaning.specs.Searches.{first_match}
 use Rattle.fancy_regex_class.specs.RunInputs.{setting_for, search_for, match_slots}
 use Rattle.fancy_regex_class.specs.declared.input.RunInput.{RunInput}
 use Rattle.fancy_regex_parts.specs.Find.{failed_starts}
+use Rattle.fancy_regex_parts.specs.Tables.{lowest_of}
 use Rattle.fancy_regex_parts.specs.declared.step.PartContext.{PartContext}
 use Rattle.fancy_regex_linear.specs.Easy.{rules_for}
 use Rattle.fancy_regex_linear.specs.EasyPatterns.{span_of_match}
 use Rattle.fancy_regex_linear.specs.RegularStates.{AreRegularStates}
 use Rattle.fancy_regex_regular.specs.Starts.{last_start}
-use Rattle.fancy_regex_regular.specs.Weights.{tree_state_weight}
+use Rattle.fancy_regex_regular.specs.Weights.{steps_in, tree_state_weight}
 use Rattle.fancy_regex_regular.specs.declared.regular.Regular.{Regular}
 
 -- it has the states and matchers of the pattern, and slots for its groups
@@ -50,9 +51,18 @@ LooksForGroupsFrom regular text first old new = (pattern : Pattern) → IsRegula
     → new ≤ old + 12 * (tree_state_weight pattern.groups pattern.tree * tree_state_weight pattern.groups pattern.tree)
     * (length text - first + 1)
 
--- the looks of a search for a span, from the first start on
+-- the least byte offset that a search asks about: the first start, less four bytes for each character that look-behinds step back over
+abbrev pub lowest_asked : Regular → RunInput → ℕ
+lowest_asked regular input = lowest_of regular.table regular.entry input.first
+
+-- the same of a pattern: where no look-behind in it steps back over characters, but for tests of one character, it is the first start
+abbrev pub lowest_seen : Regular → RunInput → Pattern → ℕ
+lowest_seen regular input pattern = if steps_in pattern.groups pattern.tree == 0 then input.first else lowest_asked regular input
+
+-- the looks of a search for a span, from that byte offset on
 abbrev pub LooksAtMost : Regular → List ℕ → RunInput → ℕ → ℕ → Type 0
-LooksAtMost regular text input old new = LooksFrom regular text input.first old new
+LooksAtMost regular text input old new = (pattern : Pattern) → IsRegularOf regular pattern
+    → new ≤ old + 4 * tree_state_weight pattern.groups pattern.tree * (length text - lowest_seen regular input pattern + 1)
 
 -- the starts of a search that have no way, where this was found
 abbrev pub starts_without : List ℕ → RunInput → Option (ℕ × ℕ) → ℕ

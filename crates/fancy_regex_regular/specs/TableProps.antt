@@ -11,6 +11,7 @@ use Rattle.fancy_regex_parts.specs.declared.table.PartTable.{PartTable}
 names_prop : (n : ℕ) (s : State) → IsProp (NamesBelow n s)
 names_prop n (S.Read leaf next) = le_prop
 names_prop n (S.Look check next) = le_prop
+names_prop n (S.Back next) = le_prop
 names_prop n (Split first second) = ×_prop le_prop le_prop
 names_prop n (Enter g next) = le_prop
 names_prop n (Leave g next) = le_prop

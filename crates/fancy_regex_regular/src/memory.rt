@@ -32,24 +32,24 @@ pub struct Kept {
 }
 
 impl Kept {
-    /// That of the parts that a search with this input asks.
-    pub(crate) fn of(input: &RunInput) -> Kept
-        ensures first { result.first ≡ input.now.first }
+    /// That of the parts that a search with this input asks, where `lowest` is the least byte offset that it asks about.
+    pub(crate) fn of(input: &RunInput, lowest: usize) -> Kept
+        ensures first { result.first ≡ lowest }
         ensures input { IsOfInput result input.now }
     {
         Kept {
-            first: input.first,
+            first: lowest,
             stop: input.range.end,
             no_start_text: input.no_start_text,
             no_end_text: input.no_end_text,
         }
     }
 
-    /// Whether a search with this input asks the same parts, at byte offsets that the memory may be asked about.
-    fn serves(&self, input: &RunInput) -> bool
-        ensures exact { result ≡ true ↔ Serves self.now input.now }
+    /// Whether a search with this input asks the same parts, at byte offsets that the memory may be asked about, from `lowest` on.
+    fn serves(&self, input: &RunInput, lowest: usize) -> bool
+        ensures exact { result ≡ true ↔ Serves self.now input.now lowest }
     {
-        self.first <= input.first
+        self.first <= lowest
             && self.stop == input.range.end
             && self.no_start_text == input.no_start_text
             && self.no_end_text == input.no_end_text
@@ -88,15 +88,15 @@ impl RegularMemory {
         self.kept = None;
     }
 
-    /// Whether a search with this input may use what is kept. It may not where that is of places before its first start alone: then
-    /// nothing is lost, and the memory begins at that start.
-    pub(crate) fn serves(&self, input: &RunInput) -> bool
-        ensures serves { result ≡ true → MemoryServes self.now.kept input.now }
-        ensures past { result ≡ false → MemoryServes self.now.kept input.now
-            → self.now.parts.recall.rows ≤ input.now.first - self.now.parts.recall.base }
+    /// Whether a search with this input, which asks about no byte offset before `lowest`, may use what is kept. It may not where that is
+    /// of places before `lowest` alone: then nothing is lost, and the memory begins there.
+    pub(crate) fn serves(&self, input: &RunInput, lowest: usize) -> bool
+        ensures serves { result ≡ true → MemoryServes self.now.kept input.now lowest }
+        ensures past { result ≡ false → MemoryServes self.now.kept input.now lowest
+            → self.now.parts.recall.rows ≤ lowest - self.now.parts.recall.base }
     {
         match &self.kept {
-            Some(kept) => kept.serves(input) && !self.parts.ends_before(input.first),
+            Some(kept) => kept.serves(input, lowest) && !self.parts.ends_before(lowest),
             None => false,
         }
     }

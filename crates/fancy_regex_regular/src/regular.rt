@@ -15,7 +15,7 @@ use fancy_regex_parts::{PartContext, PartTable, find, walk};
 use fancy_regex_states::Rules;
 use std::alloc::{AllocError, Global};
 
-/// A compiled pattern whose look-aheads and atomic groups are parts: states that are asked at a place, whose answers are remembered.
+/// A compiled pattern whose look-arounds and atomic groups are parts: states that are asked at a place, whose answers are remembered.
 pub struct Regular {
     /// The states of the pattern and of its parts.
     table: PartTable,
@@ -52,7 +52,7 @@ impl Regular {
     ghost use Rattle.fancy_regex_linear.specs.Plain.{classes};
     ghost use Rattle.fancy_regex_linear.specs.Refusals.{IsClassCause};
     ghost use Rattle.fancy_regex_regular.specs.Supported.{IsSupported};
-    ghost use Rattle.fancy_regex_regular.specs.Regulars.{IsRegularOf, IsContextOf, IsSpan, IsSlots, LooksFrom, LooksForGroupsFrom, LooksAtMost, starts_without};
+    ghost use Rattle.fancy_regex_regular.specs.Regulars.{IsRegularOf, IsContextOf, IsSpan, IsSlots, LooksFrom, LooksForGroupsFrom, LooksAtMost, lowest_asked, starts_without};
     ghost use Rattle.fancy_regex_regular.specs.Kept.{IsKeptOf, IsReady};
     ghost use Rattle.fancy_regex_regular.specs.Inputs.{MemoryServes};
     ghost use Rattle.fancy_regex_regular.specs.Iterations.{LooksOn, MayServe, IsPaidWithin, paid_before, paid_by};
@@ -62,8 +62,8 @@ impl Regular {
     ghost use Rattle.fancy_regex_info.specs.Views.{pattern_in};
 
     /// Whether an analyzed pattern becomes states with parts under these options. The first match is wanted then, not the longest, and the
-    /// weight is at most 4,000. The pattern has no more than characters, `\R`, `(*FAIL)`, assertions, look-behinds for one character,
-    /// definitions, and look-aheads, groups, atomic groups, conditionals, alternations and repeats of these.
+    /// weight is at most 4,000. The pattern has no more than characters, `\R`, `(*FAIL)`, assertions, definitions, and look-arounds,
+    /// groups, atomic groups, conditionals, alternations and repeats of these.
     pub fn supports(info: &Info<'_>, options: &CompileOptions) -> bool
         ensures exact { (explicit : Bool) (t : Tree) → info_of info.now ≡ analysis explicit t
             → (result ≡ true ↔ IsSupported options.now.leftmost_longest (pattern_in explicit t)) }
@@ -163,7 +163,7 @@ impl Regular {
         ensures answer { IfOk result (λ found. IsSlots self.now text.now input.now (option_map (λ v. v.items) found)) }
         ensures at_most { OnOk result (input.now.first ≤ input.now.range.end
             → LooksForGroupsFrom self.now text.now memory.new.parts.recall.base steps.old steps.new) }
-        ensures anew { memory.old.kept ≡ None → input.now.first ≤ input.now.range.end → memory.new.parts.recall.base ≡ input.now.first }
+        ensures anew { memory.old.kept ≡ None → input.now.first ≤ input.now.range.end → memory.new.parts.recall.base ≡ lowest_asked self.now input.now }
         ensures counts { steps.old ≤ steps.new }
         ensures kept { IsKeptOf self.now text.now memory.new }
     {
@@ -194,7 +194,8 @@ impl Regular {
 
     /// Where the first match of a search starts and ends, as byte offsets; `None` if there is none. `steps` counts the looks at the text.
     /// It never falls, and grows by at most four times the pattern's weight for each place from the first start to the end of the text,
-    /// also where memory runs out; here `\R` weighs 16 and `\Z` 7, since they are several states. Where there is an answer it grows by at
+    /// and for four more before it for each character that look-behinds reach back, also where memory runs out; here `\R` weighs 16,
+    /// `\Z` 7 and a look-behind more by the characters that it steps back over, since they are several states. Where there is an answer it grows by at
     /// least one for each start that has no match, up to the one that is found, unless it comes to the last `u64`. The memory may have
     /// been used by other searches before, of this pattern or another. The error is want of memory; the memory may be used again.
     pub fn find_span_in(
@@ -238,11 +239,11 @@ impl Regular {
         ensures kept { IsKeptOf self.now text.now memory.new }
         ensures at_most { input.now.first ≤ input.now.range.end
             → LooksFrom self.now text.now memory.new.parts.recall.base steps.old steps.new }
-        ensures anew { memory.old.kept ≡ None → input.now.first ≤ input.now.range.end → memory.new.parts.recall.base ≡ input.now.first }
+        ensures anew { memory.old.kept ≡ None → input.now.first ≤ input.now.range.end → memory.new.parts.recall.base ≡ lowest_asked self.now input.now }
         ensures shared { IfOk result (λ found. input.now.first ≤ input.now.range.end
             → LooksOn self.now input.now memory.old memory.new steps.old steps.new found) }
         ensures paid { input.now.first ≤ input.now.range.end → IsPaidWithin self.now text.now memory.new.parts }
-        ensures serves { input.now.first ≤ input.now.range.end → MemoryServes memory.new.kept input.now }
+        ensures serves { input.now.first ≤ input.now.range.end → MemoryServes memory.new.kept input.now (lowest_asked self.now input.now) }
         ensures at_least { IfOk result (λ found. input.now.first ≤ input.now.range.end
             → min (steps.old + starts_without text.now input.now found) (2 ^ 64 - 1) ≤ steps.new) }
         ensures counts { steps.old ≤ steps.new }
@@ -269,16 +270,17 @@ impl Regular {
     fn begin(&self, context: &PartContext, input: &RunInput, memory: &mut RegularMemory)
         requires { IsContextOf self.now input.now context.now }
         ensures ready { (text : List ℕ) → IsKeptOf self.now text memory.old → IsReady context.now text input.now memory.new }
-        ensures anew { memory.old.kept ≡ None → memory.new.parts.recall.base ≡ input.now.first }
-        ensures paid { (text : List ℕ) → IsKeptOf self.now text memory.old → MayServe memory.old.kept input.now
+        ensures anew { memory.old.kept ≡ None → memory.new.parts.recall.base ≡ lowest_asked self.now input.now }
+        ensures paid { (text : List ℕ) → IsKeptOf self.now text memory.old → MayServe self.now memory.old.kept input.now
             → paid_before self.now input.now memory.old ≤ paid_by self.now memory.new.parts }
-        ensures serves { MemoryServes memory.new.kept input.now }
+        ensures serves { MemoryServes memory.new.kept input.now (lowest_asked self.now input.now) }
     {
-        if memory.serves(input) {
+        let lowest = self.table.lowest(self.entry, input.first);
+        if memory.serves(input, lowest) {
             return;
         }
-        memory.parts.restart(context, input.first);
-        memory.kept = Some(Kept::of(input));
+        memory.parts.restart(context, lowest);
+        memory.kept = Some(Kept::of(input, lowest));
     }
 
     /// What a search of this pattern reads and does not change.

@@ -63,6 +63,7 @@ among_more xs ys (Enter g next) more h = tt
 among_more xs ys (Leave g next) more h = tt
 among_more xs ys (Ask part negated next) more h = tt
 among_more xs ys (Atomic part same moved) more h = tt
+among_more xs ys (S.Back next) more h = h
 among_more xs ys Match more h = h
 
 -- the first of these numbers are of states whose leaves are here
@@ -97,4 +98,5 @@ wide_refused unicode matchers leaves ascii after wide (Enter g next) among = tt
 wide_refused unicode matchers leaves ascii after wide (Leave g next) among = tt
 wide_refused unicode matchers leaves ascii after wide (Ask part negated next) among = tt
 wide_refused unicode matchers leaves ascii after wide (Atomic part same moved) among = tt
+wide_refused unicode matchers leaves ascii after wide (S.Back next) among = among
 wide_refused unicode matchers leaves ascii after wide Match among = among

@@ -1,5 +1,5 @@
 -- What states mean: the text as an attempt reads it, the answer of an attempt, and what each state gives at an offset.
-use Rattle.std.specs.Prelude.{◌≡◌, ℕ, ◌+◌, ◌*◌, ◌<◌, ◌≤◌, Bool, true, false, ◌&&◌, List, [], ◌∷◌, ◌++◌, length, Option, Some, None, option_map, unwrap_or, if◌then◌else◌, nat_lt, nat_le, IsCharBoundary}
+use Rattle.std.specs.Prelude.{◌≡◌, ℕ, ◌+◌, ◌-◌, ◌*◌, ◌<◌, ◌≤◌, Bool, true, false, ◌&&◌, List, [], ◌∷◌, ◌++◌, length, Option, Some, None, option_map, unwrap_or, if◌then◌else◌, nat_lt, nat_le, IsCharBoundary}
 use Rattle.std.specs.Char.{len_utf8}
 use Rattle.regex_hir.specs.Text.{is_some_and, char_at, char_before}
 use Rattle.fancy_regex_class.specs.declared.class.CharClassMatcher.{CharClassMatcher}
@@ -18,6 +18,8 @@ pub record View : Type 0 where
   pub has : Leaf → ℕ → Bool
   -- the offset after that character
   pub next : ℕ → ℕ
+  -- how many bytes the character before this offset has, if there is one
+  pub back : ℕ → Option ℕ
   pub holds : Test → ℕ → Bool
   -- leftmost-longest matching, instead of leftmost-first
   pub longest : Bool
@@ -102,6 +104,15 @@ passed_depth (Some t) k = (k t.end).depth
 abbrev pub passed : AttemptResult → Continuation → AttemptResult
 passed part k = record { answer = passed_answer part.answer k; depth = part.depth + passed_depth part.answer k + 1 }
 
+-- what follows at the offset so many bytes before, if there is one
+abbrev pub stepped : Option ℕ → ℕ → Continuation → AttemptResult
+stepped None i k = failed
+stepped (Some bytes) i k = guard true (k (i - bytes))
+
+-- after a part that was entered at i: at i where it ends there or before, else where it ends
+unfoldable pub resume : ℕ → Continuation → Continuation → Continuation
+resume i same moved j = if nat_lt i j then moved j else same i
+
 -- after a node that began at i: `same` where it matched the empty string, `moved` where it did not
 unfoldable pub pick : ℕ → Continuation → Continuation → Continuation
 pick i same moved j = if nat_lt i j then moved j else same j
@@ -110,6 +121,7 @@ pick i same moved j = if nat_lt i j then moved j else same j
 abbrev pub NamesBelow : ℕ → State → Type 0
 NamesBelow n (S.Read leaf next) = next < n
 NamesBelow n (S.Look check next) = next < n
+NamesBelow n (S.Back next) = next < n
 NamesBelow n (Split first second) = (first < n) × (second < n)
 NamesBelow n (Enter g next) = next < n
 NamesBelow n (Leave g next) = next < n
@@ -117,8 +129,9 @@ NamesBelow n (Ask part negated next) = (part < n) × (next < n)
 NamesBelow n (Atomic part same moved) = (part < n) × (same < n) × (moved < n)
 NamesBelow n Match = Unit {0}
 
--- the state asks a part only where states may
+-- the state asks a part, or steps back, only where states may
 abbrev pub MayAsk : Bool → State → Type 0
+MayAsk has_parts (S.Back next) = has_parts ≡ true
 MayAsk has_parts (Ask part negated next) = has_parts ≡ true
 MayAsk has_parts (Atomic part same moved) = has_parts ≡ true
 MayAsk has_parts _ = Unit {0}
@@ -132,11 +145,12 @@ module _ (view : View) (stop : ℕ) where
   abbrev pub visit : (ℕ → Continuation) → State → Continuation
   visit go (S.Read leaf next) i = guard (reads leaf i) (go next (view.next i))
   visit go (S.Look check next) i = guard (view.holds check i) (go next i)
+  visit go (S.Back next) i = stepped (view.back i) i (go next)
   visit go (Split first second) i = either view.longest (go first i) (go second i)
   visit go (Enter g next) i = save (2 * g) i (go next i)
   visit go (Leave g next) i = save (2 * g + 1) i (go next i)
   visit go (Ask part negated next) i = asked negated (go part i) (go next i)
-  visit go (Atomic part same moved) i = passed (go part i) (pick i (go same) (go moved))
+  visit go (Atomic part same moved) i = passed (go part i) (resume i (go same) (go moved))
   visit go Match i = accept i
 
   -- the state q does what `go q` says, as far as the states that it names do
@@ -153,6 +167,7 @@ AllAgree view stop states go = (q : ℕ) → q < length states → Agrees view s
 pub record Shows (matchers : List CharClassMatcher) (rules : Rules) (view : View) (at : ℕ) (before after : Option ℕ) : Type 0 where
   pub has : (leaf : Leaf) → view.has leaf at ≡ is_some_and after (leaf_matches_char rules.unicode matchers leaf)
   pub next : view.next at ≡ at + unwrap_or (option_map len_utf8 after) 1
+  pub back : view.back at ≡ option_map len_utf8 before
   pub holds : (test : Test) → view.holds test at ≡ passes matchers rules test before after
   pub no_parts : view.has_parts ≡ false
 

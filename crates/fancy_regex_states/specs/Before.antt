@@ -26,6 +26,7 @@ may_pass unicode matchers _ c = true
 abbrev pub LeadsAfter : Bool → List CharClassMatcher → ℕ → State → ℕ → Type 0
 LeadsAfter unicode matchers c (S.Read leaf next) p = ⊥
 LeadsAfter unicode matchers c (S.Look check next) p = (may_pass unicode matchers check c ≡ true) × (p ≡ next)
+LeadsAfter unicode matchers c (S.Back next) p = ⊥
 LeadsAfter unicode matchers c (Split first second) p = (p ≡ first) ⊎ (p ≡ second)
 LeadsAfter unicode matchers c (Enter g next) p = p ≡ next
 LeadsAfter unicode matchers c (Leave g next) p = p ≡ next
@@ -39,9 +40,10 @@ pub data ReachesAfter (unicode : Bool) (matchers : List CharClassMatcher) (state
   onward : (q p : ℕ) → ReachesAfter unicode matchers states entry c q → LeadsAfter unicode matchers c (state_at states q) p
       → ReachesAfter unicode matchers states entry c p
 
--- the state neither reads nor is final: it only leads on
+-- the state neither reads nor steps back nor is final: it only leads on
 abbrev pub OnlyLeadsOn : State → Type 0
 OnlyLeadsOn (S.Read leaf next) = ⊥
+OnlyLeadsOn (S.Back next) = ⊥
 OnlyLeadsOn Match = ⊥
 OnlyLeadsOn _ = Unit {0}
 

@@ -25,6 +25,7 @@ MayHold _ = Unit {0}
 abbrev pub Leads : State → ℕ → Type 0
 Leads (S.Read leaf next) p = ⊥
 Leads (S.Look check next) p = MayHold check × (p ≡ next)
+Leads (S.Back next) p = ⊥
 Leads (Split first second) p = (p ≡ first) ⊎ (p ≡ second)
 Leads (Enter g next) p = p ≡ next
 Leads (Leave g next) p = p ≡ next
@@ -37,9 +38,10 @@ pub data Reaches (states : List State) (entry : ℕ) : ℕ → Type 0 where
   here : Reaches states entry entry
   onward : (q p : ℕ) → Reaches states entry q → Leads (state_at states q) p → Reaches states entry p
 
--- the state is not final, and if it reads, then not this character; `None` is the end of the text
+-- the state is not final and steps not back, and if it reads, then not this character; `None` is the end of the text
 abbrev pub CannotRead : Bool → List CharClassMatcher → Option ℕ → State → Type 0
 CannotRead unicode matchers after (S.Read leaf next) = is_some_and after (leaf_matches_char unicode matchers leaf) ≡ false
+CannotRead unicode matchers after (S.Back next) = ⊥
 CannotRead unicode matchers after Match = ⊥
 CannotRead unicode matchers after _ = Unit {0}
 
@@ -47,9 +49,10 @@ CannotRead unicode matchers after _ = Unit {0}
 abbrev pub CannotBegin : Bool → List CharClassMatcher → List State → ℕ → Option ℕ → Type 0
 CannotBegin unicode matchers states entry after = (q : ℕ) → Reaches states entry q → CannotRead unicode matchers after (state_at states q)
 
--- the state is not final, and if it reads, then no way goes on with this character after what it reads
+-- the state is not final and steps not back, and if it reads, then no way goes on with this character after what it reads
 abbrev pub CannotGoOn : Bool → List CharClassMatcher → List State → Option ℕ → State → Type 0
 CannotGoOn unicode matchers states after (S.Read leaf next) = CannotBegin unicode matchers states next after
+CannotGoOn unicode matchers states after (S.Back next) = ⊥
 CannotGoOn unicode matchers states after Match = ⊥
 CannotGoOn unicode matchers states after _ = Unit {0}
 
@@ -69,9 +72,10 @@ RefusesWide unicode matchers states entry = (after : Option ℕ) → IfSome afte
 abbrev pub HasNoNewMarks : List Bool → List Bool → Type 0
 HasNoNewMarks before after = (c : ℕ) → slice_index_or after c false ≡ true → slice_index_or before c false ≡ true
 
--- the state is not final, and if it reads, then by one of these leaves
+-- the state is not final and steps not back, and if it reads, then by one of these leaves
 abbrev pub IsAmong : List Leaf → State → Type 0
 IsAmong leaves (S.Read leaf next) = Contains leaves leaf
+IsAmong leaves (S.Back next) = ⊥
 IsAmong leaves Match = ⊥
 IsAmong leaves _ = Unit {0}
 

@@ -94,7 +94,7 @@ fn add_successors(found: &mut Vec<usize>, state: State, before: Before) -> Resul
         → LeadsAfter before.entry.unicode before.entry.matchers.now c state p → Contains found.new.items p) }
 {
     match state {
-        State::Read { .. } | State::Match => Ok(false),
+        State::Read { .. } | State::Back { .. } | State::Match => Ok(false),
         State::Look { test, next } => {
             if may_hold(test, before) {
                 add_number(found, next)?;

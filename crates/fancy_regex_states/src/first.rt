@@ -153,7 +153,7 @@ fn add_successors(found: &mut Vec<usize>, state: State) -> Result<(), AllocError
     ensures successors { OnOk result ((p : ℕ) → Leads state p → Contains found.new.items p) }
 {
     match state {
-        State::Read { .. } | State::Match => Ok(()),
+        State::Read { .. } | State::Back { .. } | State::Match => Ok(()),
         State::Look { test, next } => {
             if test == Test::StartText {
                 return Ok(());
@@ -218,7 +218,7 @@ fn add_leaf(leaves: &mut Vec<Leaf>, state: State) -> Result<bool, AllocError>
         | State::Leave { .. }
         | State::Ask { .. }
         | State::Atomic { .. } => Ok(true),
-        State::Match => Ok(false),
+        State::Back { .. } | State::Match => Ok(false),
     }
 }
 

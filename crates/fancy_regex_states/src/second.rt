@@ -77,7 +77,7 @@ fn refuse_after(
         | State::Leave { .. }
         | State::Ask { .. }
         | State::Atomic { .. } => Ok(true),
-        State::Match => Ok(false),
+        State::Back { .. } | State::Match => Ok(false),
     }
 }
 

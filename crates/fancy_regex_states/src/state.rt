@@ -30,6 +30,11 @@ pub enum State {
         group: usize,
         next: usize,
     },
+    /// Steps back over one character, and continues before it; at the start of the text there is no way. Only parts begin with it, those
+    /// of look-behinds.
+    Back {
+        next: usize,
+    },
     /// Asks the part that begins at the state `part`: continues where it has a way from here or, where `negated`, where it has none.
     Ask {
         part: usize,

@@ -41,6 +41,7 @@ reads_alike unicode matchers leaves asked one other (S.Look test next) agree has
 reads_alike unicode matchers leaves asked one other (S.Split first second) agree has = tt
 reads_alike unicode matchers leaves asked one other (S.Enter g next) agree has = tt
 reads_alike unicode matchers leaves asked one other (S.Leave g next) agree has = tt
+reads_alike unicode matchers leaves asked one other (S.Back next) agree has = tt
 reads_alike unicode matchers leaves asked one other (S.Ask part negated next) agree has = tt
 reads_alike unicode matchers leaves asked one other (S.Atomic part same moved) agree has = tt
 reads_alike unicode matchers leaves asked one other S.Match agree has = tt

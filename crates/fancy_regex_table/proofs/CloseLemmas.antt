@@ -38,6 +38,7 @@ module _ (view : View) (stop : ℕ) (go : ℕ → Continuation) (i : ℕ) (befor
   end_led (S.Leave g next) r first asks e h =
       ap (λ v. end_of v.answer) e ∙ end_write (2 * g + 1) i (go next i).answer
       ∙ sym (or_else_none (or_else (end_at go i next) None) ∙ or_else_none (end_at go i next))
+  end_led (S.Back next) r first asks e h = cc
   end_led (S.Ask part negated next) r first asks e h = cc
   end_led (S.Atomic part same moved) r first asks e h = cc
   end_led S.Match r first asks e h = ap (λ v. end_of v.answer) e
@@ -49,6 +50,7 @@ module _ (view : View) (stop : ℕ) (go : ℕ → Continuation) (i : ℕ) (befor
   final_end (S.Split one two) r first e h final = cc
   final_end (S.Enter g next) r first e h final = cc
   final_end (S.Leave g next) r first e h final = cc
+  final_end (S.Back next) r first e h final = cc
   final_end (S.Ask part negated next) r first e h final = cc
   final_end (S.Atomic part same moved) r first e h final = cc
   final_end S.Match r first e h final = ap (λ v. end_of v.answer) e
@@ -75,6 +77,7 @@ module _ (view : View) (stop : ℕ) (go : ℕ → Continuation) (i : ℕ) (befor
       (omega arith, (omega arith, tt))
   successors_below (S.Enter g next) r d e h le = let same : r.depth ≡ (go next i).depth + 1 = ap (λ v. v.depth) e in (omega arith, tt)
   successors_below (S.Leave g next) r d e h le = let same : r.depth ≡ (go next i).depth + 1 = ap (λ v. v.depth) e in (omega arith, tt)
+  successors_below (S.Back next) r d e h le = tt
   successors_below (S.Ask part negated next) r d e h le = tt
   successors_below (S.Atomic part same moved) r d e h le = tt
   successors_below S.Match r d e h le = tt
@@ -152,6 +155,7 @@ module _ (view : View) (stop : ℕ) (go : ℕ → Continuation) (i : ℕ) (befor
     not_read (S.Split one two) e = refl
     not_read (S.Enter g next) e = refl
     not_read (S.Leave g next) e = refl
+    not_read (S.Back next) e = refl
     not_read (S.Ask part negated next) e = refl
     not_read (S.Atomic part same moved) e = refl
     not_read S.Match e = refl
@@ -271,6 +275,7 @@ not_reader (S.Look test next) e = refl
 not_reader (S.Split one two) e = refl
 not_reader (S.Enter g next) e = refl
 not_reader (S.Leave g next) e = refl
+not_reader (S.Back next) e = refl
 not_reader (S.Ask part negated next) e = refl
 not_reader (S.Atomic part same moved) e = refl
 not_reader S.Match e = refl

@@ -29,6 +29,7 @@ alike_same unicode matchers c (S.Look test next) = tt
 alike_same unicode matchers c (S.Split first second) = tt
 alike_same unicode matchers c (S.Enter g next) = tt
 alike_same unicode matchers c (S.Leave g next) = tt
+alike_same unicode matchers c (S.Back next) = tt
 alike_same unicode matchers c (S.Ask part negated next) = tt
 alike_same unicode matchers c (S.Atomic part same moved) = tt
 alike_same unicode matchers c S.Match = tt

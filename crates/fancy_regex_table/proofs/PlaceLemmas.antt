@@ -88,6 +88,7 @@ holds_as asked rules matchers view at one other before after start end shows is_
 holds_as asked rules matchers view at one other before after start end shows is_before is_after (S.Split first second) is_asked = tt
 holds_as asked rules matchers view at one other before after start end shows is_before is_after (S.Enter g next) is_asked = tt
 holds_as asked rules matchers view at one other before after start end shows is_before is_after (S.Leave g next) is_asked = tt
+holds_as asked rules matchers view at one other before after start end shows is_before is_after (S.Back next) is_asked = tt
 holds_as asked rules matchers view at one other before after start end shows is_before is_after (S.Ask part negated next) is_asked = tt
 holds_as asked rules matchers view at one other before after start end shows is_before is_after (S.Atomic part same moved) is_asked = tt
 holds_as asked rules matchers view at one other before after start end shows is_before is_after S.Match is_asked = tt
@@ -113,6 +114,7 @@ reads_as unicode matchers view stop at c sample (S.Look test next) here alike = 
 reads_as unicode matchers view stop at c sample (S.Split first second) here alike = tt
 reads_as unicode matchers view stop at c sample (S.Enter g next) here alike = tt
 reads_as unicode matchers view stop at c sample (S.Leave g next) here alike = tt
+reads_as unicode matchers view stop at c sample (S.Back next) here alike = tt
 reads_as unicode matchers view stop at c sample (S.Ask part negated next) here alike = tt
 reads_as unicode matchers view stop at c sample (S.Atomic part same moved) here alike = tt
 reads_as unicode matchers view stop at c sample S.Match here alike = tt

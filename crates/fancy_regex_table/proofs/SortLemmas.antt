@@ -66,6 +66,7 @@ module _ (less more : Asked) (h : AsksMore less more) where
   still_asked (S.Split first second) a = tt
   still_asked (S.Enter group next) a = tt
   still_asked (S.Leave group next) a = tt
+  still_asked (S.Back next) a = tt
   still_asked (S.Ask part negated next) a = tt
   still_asked (S.Atomic part same moved) a = tt
   still_asked S.Match a = tt

@@ -60,6 +60,7 @@ module _ (unicode : Bool) (matchers : List CharClassMatcher) (states : List Stat
   read_end_next view stop go i (S.Split one two) h = refl
   read_end_next view stop go i (S.Enter g next) h = refl
   read_end_next view stop go i (S.Leave g next) h = refl
+  read_end_next view stop go i (S.Back next) h = refl
   read_end_next view stop go i (S.Ask part negated next) h = refl
   read_end_next view stop go i (S.Atomic part same moved) h = refl
   read_end_next view stop go i S.Match h = refl

@@ -84,6 +84,7 @@ epsilon_successors before after (S.Split first second) = first ∷ second ∷ []
 epsilon_successors before after (S.Enter group next) = next ∷ []
 epsilon_successors before after (S.Leave group next) = next ∷ []
 epsilon_successors before after S.Match = []
+epsilon_successors before after (S.Back next) = []
 epsilon_successors before after (S.Ask part negated next) = []
 epsilon_successors before after (S.Atomic part same moved) = []
 

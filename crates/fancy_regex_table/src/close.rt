@@ -132,7 +132,7 @@ fn follow(
             Ok(false)
         }
         State::Match => Ok(true),
-        // No state of an easy pattern asks a part.
-        State::Ask { .. } | State::Atomic { .. } => Ok(false),
+        // No state of an easy pattern asks a part or steps back.
+        State::Ask { .. } | State::Atomic { .. } | State::Back { .. } => Ok(false),
     }
 }

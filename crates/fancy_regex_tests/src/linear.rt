@@ -5,7 +5,7 @@ use std::alloc::Global;
 use std::test::Fail;
 
 /// Patterns, and whether their regexes are linear.
-static PATTERNS: [(&str, bool); 33] = [
+static PATTERNS: [(&str, bool); 34] = [
     ("a+b", true),
     (r"\bfoo\b", true),
     ("(a)(b|c)*", true),
@@ -16,6 +16,9 @@ static PATTERNS: [(&str, bool); 33] = [
     ("(a)(?>b)(c)", true),
     ("(?<=a)c", true),
     (r"(?<!\w)c", true),
+    ("(?<=ab)c", true),
+    ("(?<=(a))c", true),
+    ("(?<!the |an )b", true),
     (r"\b{start-half}c", true),
     ("a|(*FAIL)", true),
     (r"a\Z", true),
@@ -31,8 +34,6 @@ static PATTERNS: [(&str, bool); 33] = [
     ("(?=(a))b", true),
     ("(?>(a))b", true),
     ("(?:a(?=(b)))", true),
-    ("(?<=ab)c", false),
-    ("(?<=(a))c", false),
     (r"\Ka", false),
     (r"\Ga", false),
     (r"(a)\g<1>", false),

@@ -18,7 +18,7 @@ tasks-init c =
     let none : c.args.memory.now.stack.items ≡ [] = nil_from_length _ (omega (arith, c.requires.ready.stack, c.args.memory.now.stack.ok.0)) in
     record {
       tracking = λ view ways has true_of. rw none (record { resumes = refl; below = tt; remembers = true_of });
-      place = rw none (record { task = (c.requires.part, c.requires.place); frames = tt });
+      place = rw none (record { task = c.requires.place; frames = tt });
       paid = rw none (record { base = refl; memory = c.requires.ready.of_text; counted = omega arith; looks = no_look c.args.text.now });
     }
 
@@ -35,8 +35,8 @@ visit-requires c =
 
 pub resume-task-requires : goal.resume-task-requires
 resume-task-requires c =
-    small_place (looked_text c.args.text.now) c.args.memory.now.recall.base _ (length c.args.context.now.table.now.states.items) c.requires.ready.small
-    (subst (IsTaskWithin (looked_text c.args.text.now) (length c.args.context.now.table.now.states.items) c.args.memory.now.recall.base) c.in-Answer.is c.tasks.invariant.place.task)
+    small_place c.args.context.now.table.now (looked_text c.args.text.now) c.args.memory.now.recall.base _ c.requires.ready.small
+    (subst (IsTaskWithin c.args.context.now.table.now (looked_text c.args.text.now) c.args.memory.now.recall.base) c.in-Answer.is c.tasks.invariant.place.task)
 
 pub returns-in_default-clause-answer : goal.returns-in_default-clause-answer
 unfolding top_first
@@ -49,8 +49,8 @@ returns-in_default-clause-answer c view ways has true_of =
 
 pub returns-in_default-clause-place : goal.returns-in_default-clause-place
 returns-in_default-clause-place c =
-    answer_place (looked_text c.args.text.now) c.args.memory.now.recall.base _ (length c.args.context.now.table.now.states.items)
-    (subst (IsTaskWithin (looked_text c.args.text.now) (length c.args.context.now.table.now.states.items) c.args.memory.now.recall.base) c.in-Answer.is c.tasks.invariant.place.task)
+    answer_place c.args.context.now.table.now (looked_text c.args.text.now) c.args.memory.now.recall.base _
+    (subst (IsTaskWithin c.args.context.now.table.now (looked_text c.args.text.now) c.args.memory.now.recall.base) c.in-Answer.is c.tasks.invariant.place.task)
 
 pub returns-in_default-clause-paid : goal.returns-in_default-clause-paid
 returns-in_default-clause-paid c = paid_down c.args.context.now _ _ 0 (omega arith) c.tasks.invariant.paid
@@ -87,7 +87,6 @@ pub tasks-preserved : goal.tasks-preserved
 tasks-preserved c =
     let context = c.args.context.now in
     let base = c.args.memory.now.recall.base in
-    let count = length context.table.now.states.items in
     let is : top_first c.tasks.memory.stack.items ≡ c.in-Some.frame ∷ top_first c.pop.new.self.items =
     ap top_first c.in-Some.ensures.items ∙ top_pushed c.pop.new.self.items c.in-Some.frame in
     let place = rw (is, c.in-Answer.is) at c.tasks.invariant.place in
@@ -97,11 +96,11 @@ tasks-preserved c =
           (Tracks-resume ways context.table.now.heads.items base c.in-Some.frame (top_first c.pop.new.self.items) _ (ways.end c.args.part c.args.at) c.resume-task.ensures.recall
           (rw (is, c.in-Answer.is) at (c.tasks.invariant.tracking view ways has true_of)));
       place = record {
-        task = rw c.resume-task.ensures.task (resume_within (looked_text c.args.text.now) count base c.in-Some.frame (top_first c.pop.new.self.items) _ place.frames place.task);
+        task = rw c.resume-task.ensures.task (resume_within context.table.now (looked_text c.args.text.now) base c.requires.ready.small c.in-Some.frame (top_first c.pop.new.self.items) _ place.frames place.task);
         frames = place.frames.1;
       };
       paid = rw c.resume-task.ensures.task
-          (paid_resumed context c.args.text.now c.tasks.text c.args.memory.now.recall c.tasks.memory.recall _ (due context.table.now c.args.part) count c.in-Some.frame (top_first c.pop.new.self.items) _
+          (paid_resumed context c.args.text.now c.tasks.text c.args.memory.now.recall c.tasks.memory.recall _ (due context.table.now c.args.part) c.in-Some.frame (top_first c.pop.new.self.items) _
           c.resume-task.ensures.recall place.task (rw (is, c.in-Answer.is) at c.tasks.invariant.paid));
     }
 

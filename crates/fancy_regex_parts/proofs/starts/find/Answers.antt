@@ -13,7 +13,7 @@ use Rattle.fancy_regex_parts.proofs.starts.find.Goals.{In_ok-end, In-None}
 
 pub starts-init : goal.starts-init
 starts-init c = record {
-  place = c.requires.starts.place;
+  place = record { state = c.requires.entry; boundary = c.requires.starts.boundary; low = c.requires.starts.low };
   range = c.requires.starts.order;
   left = λ view ways has true_of. refl;
   counted = λ view ways has true_of. omega arith;
@@ -146,7 +146,7 @@ starts-preserved c =
     subst (λ (t : List ℕ). IsNext t c.args.last c.starts.at c.in-Some-place_after.next) leaves.looks.text
     (subst (λ (o : Option ℕ). IsAfter (looked_text c.ask.new.text) c.args.last c.starts.at o) c.in-Some-place_after.is c.place_after.ensures.after) in
     record {
-      place = record { low = omega (arith, invariant.place.low, next.later); boundary = next.boundary };
+      place = record { state = invariant.place.state; boundary = next.boundary; low = omega (arith, invariant.place.low, next.later) };
       range = next.early;
       left = λ view ways has true_of.
           invariant.left view ways has true_of

@@ -2,14 +2,14 @@ use Rattle.std.proofs.Common.{◌≡◌, ◌+◌, ◌-◌, ◌*◌, ◌^◌, ◌
 use Rattle.fancy_regex_class.specs.Looks.{looked_text, look_count}
 use Rattle.fancy_regex_meaning.specs.Positions.{boundaries}
 use Rattle.fancy_regex_parts.specs.Tables.{due, known_cost}
-use Rattle.fancy_regex_parts.specs.Frames.{IsPlace}
+use Rattle.fancy_regex_parts.specs.Frames.{IsInReach}
 use Rattle.fancy_regex_parts.specs.Layers.{ForTrueWays, IsWithinLooks, LeavesMemory}
 use Rattle.fancy_regex_parts.specs.Find.{earliest, attempted}
 use Rattle.fancy_regex_parts.proofs.starts.find.Given as goal
 
 abbrev pub invariant-starts : goal.invariant-starts
 invariant-starts l = record {
-  place : IsPlace (looked_text l.fn.text) l.fn.memory.recall.base l.at;
+  place : IsInReach l.context.table.now (looked_text l.fn.text) l.fn.memory.recall.base l.context.entry l.at;
   range : l.at ≤ l.last;
   left : ForTrueWays l.context l.fn.text l.fn.memory (λ ways. earliest (ways.end l.context.entry) (boundaries (looked_text l.fn.text) l.from l.last)
       ≡ earliest (ways.end l.context.entry) (boundaries (looked_text l.fn.text) l.at l.last));

@@ -1,15 +1,17 @@
-use Rattle.std.proofs.Common.{◌≡◌, ℕ, vec_len, Bool, true, false, ◌==◌, ap₂, ◌∙◌, ◌∷◌, [], List, ◌&&◌, ◌||◌, not, length, map, ap, sym, refl, rules, arith}
-use Rattle.fancy_regex_tree.specs.Tree.{Tree, tree_of, concat, alt, conditional}
+use Rattle.std.proofs.Common.{◌≡◌, ℕ, vec_len, Bool, true, false, ◌==◌, ap₂, ◌∙◌, ◌∷◌, [], ◌&&◌, ◌||◌, not, length, map, ap, sym, refl, subst, rules, arith, List}
+use Rattle.fancy_regex_tree.specs.Tree.{tree_of, concat, alt, Tree, conditional}
 use Rattle.fancy_regex_linear.specs.Re as re
 use Rattle.fancy_regex_linear.specs.Re.{Re, shape, shapes, cats, alts}
+use Rattle.fancy_regex_info.specs.Views.{size_of}
 use Rattle.fancy_regex_meaning.specs.Groups.{group_count}
 use Rattle.fancy_regex_meaning.specs.Sizes.{may_be_empty}
 use Rattle.fancy_regex_linear.specs.Program.{never_empty}
-use Rattle.fancy_regex_linear.specs.Plain.{IsRegular, classes, re_of}
+use Rattle.fancy_regex_linear.specs.Plain.{classes, re_of, joined, is_negated_look, IsRegular}
 use Rattle.fancy_regex_linear.specs.Refusals.{IsClassCause}
-use Rattle.fancy_regex_linear.specs.Translation.{all_trees, all_move}
-use Rattle.fancy_regex_linear.proofs.PlainLemmas.{one_char_groups, one_char_classes, body_regular, sound_asking, never_asking, flag_is}
-use Rattle.fancy_regex_linear.proofs.BuildLemmas.{extends_none, look_is, asking_is, row_none, row_sound, branches_sound, cause_in_row, if_ok, nodes_step, row_whole, row_is, branches_is, row_moves, all_moves, branches_move, conditional_matchers, conditional_shape, cause_in_condition, cause_in_yes, cause_in_no}
+use Rattle.fancy_regex_linear.specs.Translation.{all_trees, all_move, around_tree}
+use Rattle.fancy_regex_linear.proofs.PlainLemmas.{one_char_groups, one_char_classes, joined_sound, joined_still, flag_is}
+use Rattle.fancy_regex_linear.proofs.PartLemmas.{IsOnePart, other_part, long_part, regular_size}
+use Rattle.fancy_regex_linear.proofs.BuildLemmas.{extends_none, look_is, ahead_is, behind_is, each_behind, each_is, nodes_still, all_sound, row_none, row_sound, branches_sound, cause_in_row, if_ok, nodes_step, row_whole, row_is, branches_is, row_moves, all_moves, branches_move, conditional_matchers, conditional_shape, cause_in_condition, cause_in_yes, cause_in_no}
 use Rattle.fancy_regex_linear.proofs.NoClassLemmas.{NoClass, no_classes}
 use Rattle.std.proofs.lemmas.List.{map-append, length-map}
 use Rattle.fancy_regex_linear.proofs.ShapeLemmas.{tree_concat, tree_alt, shape_concat, shape_alt, shape_repeat, tree_conditional}
@@ -58,7 +60,7 @@ repeat-returns-clause-shape t c = λ regular groups.
     ∙ ap₂ (λ (b : Bool) (x : Re). re.repeat c.args.lo c.args.hi c.args.greedy b x) flag body)
 
 pub row-loop-i-init : goal.row-loop-i-init
-row-loop-i-init t c = record { built = rw c.new-parts.ensures.items (row_none c.args.self.now); moves = rw c.new-parts.ensures.items refl }
+row-loop-i-init t c = record { built = rw c.new-parts.ensures.items (row_none re_of c.args.self.now); moves = rw c.new-parts.ensures.items refl }
 
 pub row-loop-i-preserved : goal.row-loop-i-preserved
 row-loop-i-preserved t c =
@@ -69,7 +71,7 @@ row-loop-i-preserved t c =
     ] in
     record {
       built =
-          nodes_step c.args.self.now c.loop-i.self c.translated.new.self c.args.children.now c.loop-i.i c.index-children-i.result c.loop-i.parts.items
+          nodes_step re_of c.args.self.now c.loop-i.self c.translated.new.self c.args.children.now c.loop-i.i c.index-children-i.result c.loop-i.parts.items
           c.add.new.values.items c.in_ok-translated.translated.node c.loop-i-test.true c.index-children-i.is c.in_ok-add.ensures c.loop-i.invariant.built
           c.in_ok-translated.ensures.unicode c.in_ok-translated.ensures.groups c.in_ok-translated.ensures.matchers c.in_ok-translated.ensures.sound c.in_ok-translated.ensures.shape;
       moves =
@@ -80,26 +82,26 @@ row-loop-i-preserved t c =
     }
 
 pub row-returns-clause-groups : goal.row-returns-clause-groups
-row-returns-clause-groups t c = (row_whole _ _ c.args.children.now c.loop-i.i _ c.loop-i-test.false c.loop-i.invariant.built).groups
+row-returns-clause-groups t c = (row_whole re_of _ _ c.args.children.now c.loop-i.i _ c.loop-i-test.false c.loop-i.invariant.built).groups
 
 pub row-returns-clause-matchers : goal.row-returns-clause-matchers
-row-returns-clause-matchers t c = (row_whole _ _ c.args.children.now c.loop-i.i _ c.loop-i-test.false c.loop-i.invariant.built).matchers
+row-returns-clause-matchers t c = (row_whole re_of _ _ c.args.children.now c.loop-i.i _ c.loop-i-test.false c.loop-i.invariant.built).matchers
 
 pub row-returns-clause-sound : goal.row-returns-clause-sound
 row-returns-clause-sound t c =
-    let built = row_whole _ _ c.args.children.now c.loop-i.i _ c.loop-i-test.false c.loop-i.invariant.built in
+    let built = row_whole re_of _ _ c.args.children.now c.loop-i.i _ c.loop-i-test.false c.loop-i.invariant.built in
     rw (shape_concat c.loop-i.parts) (row_sound (shapes c.loop-i.parts.items) built.sound)
 
 pub row-returns-clause-shape : goal.row-returns-clause-shape
 row-returns-clause-shape t c = λ regular groups.
-    let built = row_whole _ _ c.args.children.now c.loop-i.i _ c.loop-i-test.false c.loop-i.invariant.built in
+    let built = row_whole re_of _ _ c.args.children.now c.loop-i.i _ c.loop-i-test.false c.loop-i.invariant.built in
     shape_concat c.loop-i.parts
     ∙ ap cats (built.patterns regular groups)
     ∙ row_is c.args.self.now.unicode groups (map tree_of c.args.children.now) c.args.self.now.next_group (length c.args.self.now.matchers.items)
 
 pub branches-loop-i-init : goal.branches-loop-i-init
 unfolding all_move
-branches-loop-i-init t c = record { built = rw c.new-parts.ensures.items (row_none c.args.self.now); moves = rw c.new-parts.ensures.items refl }
+branches-loop-i-init t c = record { built = rw c.new-parts.ensures.items (row_none re_of c.args.self.now); moves = rw c.new-parts.ensures.items refl }
 
 pub branches-loop-i-preserved : goal.branches-loop-i-preserved
 branches-loop-i-preserved t c =
@@ -110,7 +112,7 @@ branches-loop-i-preserved t c =
     ] in
     record {
       built =
-          nodes_step c.args.self.now c.loop-i.self c.translated.new.self c.args.children.now c.loop-i.i c.index-children-i.result c.loop-i.parts.items
+          nodes_step re_of c.args.self.now c.loop-i.self c.translated.new.self c.args.children.now c.loop-i.i c.index-children-i.result c.loop-i.parts.items
           c.add.new.values.items c.in_ok-translated.translated.node c.loop-i-test.true c.index-children-i.is c.in_ok-add.ensures c.loop-i.invariant.built
           c.in_ok-translated.ensures.unicode c.in_ok-translated.ensures.groups c.in_ok-translated.ensures.matchers c.in_ok-translated.ensures.sound c.in_ok-translated.ensures.shape;
       moves =
@@ -121,10 +123,10 @@ branches-loop-i-preserved t c =
     }
 
 pub branches-returns-clause-groups : goal.branches-returns-clause-groups
-branches-returns-clause-groups t c = (row_whole _ _ c.args.children.now c.loop-i.i _ c.loop-i-test.false c.loop-i.invariant.built).groups
+branches-returns-clause-groups t c = (row_whole re_of _ _ c.args.children.now c.loop-i.i _ c.loop-i-test.false c.loop-i.invariant.built).groups
 
 pub branches-returns-clause-matchers : goal.branches-returns-clause-matchers
-branches-returns-clause-matchers t c = (row_whole _ _ c.args.children.now c.loop-i.i _ c.loop-i-test.false c.loop-i.invariant.built).matchers
+branches-returns-clause-matchers t c = (row_whole re_of _ _ c.args.children.now c.loop-i.i _ c.loop-i-test.false c.loop-i.invariant.built).matchers
 
 pub branches-returns-clause-moves : goal.branches-returns-clause-moves
 branches-returns-clause-moves t c =
@@ -143,12 +145,12 @@ branches-returns-clause-moves t c =
 
 pub branches-returns-clause-sound : goal.branches-returns-clause-sound
 branches-returns-clause-sound t c =
-    let built = row_whole _ _ c.args.children.now c.loop-i.i _ c.loop-i-test.false c.loop-i.invariant.built in
+    let built = row_whole re_of _ _ c.args.children.now c.loop-i.i _ c.loop-i-test.false c.loop-i.invariant.built in
     rw (shape_alt c.loop-i.parts) (branches_sound (shapes c.loop-i.parts.items) built.sound)
 
 pub branches-returns-clause-shape : goal.branches-returns-clause-shape
 branches-returns-clause-shape t c = λ regular groups.
-    let built = row_whole _ _ c.args.children.now c.loop-i.i _ c.loop-i-test.false c.loop-i.invariant.built in
+    let built = row_whole re_of _ _ c.args.children.now c.loop-i.i _ c.loop-i-test.false c.loop-i.invariant.built in
     shape_alt c.loop-i.parts
     ∙ ap alts (built.patterns regular groups)
     ∙ branches_is c.args.self.now.unicode groups (map tree_of c.args.children.now) c.args.self.now.next_group (length c.args.self.now.matchers.items)
@@ -186,7 +188,7 @@ look_around-returns-then-is_one_char-clause-shape t c = λ regular groups.
     let k = length c.args.self.now.matchers.items in
     let child = tree_of c.args.child.now in
     ap shape c.still.ensures.0
-    ∙ look_is unicode k child c.args.look c.in_ok-leaf.leaf (shape c.look_node.result) (re_of unicode groups n k child)
+    ∙ look_is unicode groups n k child c.args.look c.in_ok-leaf.leaf (shape c.look_node.result) (re_of unicode groups n k child)
     (c.is_one_char.ensures.one c.if-is_one_char.true) c.in_ok-leaf.ensures.leaf c.look_node.ensures.shape
 
 pub look_around-returns-in_err-leaf-clause-refused : goal.look_around-returns-in_err-leaf-clause-refused
@@ -195,27 +197,132 @@ look_around-returns-in_err-leaf-clause-refused t c =
     rw (one_char_classes (tree_of c.args.child.now) (c.is_one_char.ensures.one c.if-is_one_char.true)) c.in_err-leaf.ensures.refused in
     search rules
 
-pub look_around-returns-clause-groups : goal.look_around-returns-clause-groups
-look_around-returns-clause-groups t c = λ regular.
-    c.in_ok-translated.ensures.groups (body_regular (tree_of c.args.child.now) c.args.look regular)
+pub behind_branches-loop-i-init : goal.behind_branches-loop-i-init
+behind_branches-loop-i-init t c = record { built = rw c.new-parts.ensures.items (row_none (around_tree c.args.look) c.args.self.now); still = rw c.new-parts.ensures.items tt }
 
-pub look_around-returns-clause-still : goal.look_around-returns-clause-still
-look_around-returns-clause-still t c =
-    ap never_empty (ap shape c.still-2.ensures.0 ∙ c.asking_node.ensures) ∙ never_asking c.args.look (shape c.in_ok-body.body.value)
+pub behind_branches-loop-i-preserved : goal.behind_branches-loop-i-preserved
+behind_branches-loop-i-preserved t c =
+    record {
+      built =
+          nodes_step (around_tree c.args.look) c.args.self.now c.loop-i.self c.look_around.new.self c.args.children.now c.loop-i.i c.index-children-i.result c.loop-i.parts.items
+          c.add.new.values.items c.in_ok-part.part.node c.loop-i-test.true c.index-children-i.is c.in_ok-add.ensures c.loop-i.invariant.built
+          c.in_ok-part.ensures.unicode c.in_ok-part.ensures.groups c.in_ok-part.ensures.matchers c.in_ok-part.ensures.sound c.in_ok-part.ensures.shape;
+      still = nodes_still c.loop-i.parts.items c.add.new.values.items c.in_ok-part.part.node c.in_ok-add.ensures c.loop-i.invariant.still c.in_ok-part.ensures.still;
+    }
 
-pub look_around-returns-clause-sound : goal.look_around-returns-clause-sound
-look_around-returns-clause-sound t c =
-    rw (ap shape c.still-2.ensures.0 ∙ c.asking_node.ensures)
-    (sound_asking c.args.look (shape c.in_ok-body.body.value) (rw c.in_ok-body.ensures c.in_ok-translated.ensures.sound))
+pub behind_branches-returns-clause-groups : goal.behind_branches-returns-clause-groups
+behind_branches-returns-clause-groups t c = (row_whole (around_tree c.args.look) _ _ c.args.children.now c.loop-i.i _ c.loop-i-test.false c.loop-i.invariant.built).groups
 
-pub look_around-returns-clause-shape : goal.look_around-returns-clause-shape
-look_around-returns-clause-shape t c = λ regular groups.
+pub behind_branches-returns-clause-matchers : goal.behind_branches-returns-clause-matchers
+behind_branches-returns-clause-matchers t c = (row_whole (around_tree c.args.look) _ _ c.args.children.now c.loop-i.i _ c.loop-i-test.false c.loop-i.invariant.built).matchers
+
+pub behind_branches-returns-clause-still : goal.behind_branches-returns-clause-still
+behind_branches-returns-clause-still t c = rw (ap shape c.still.ensures.0 ∙ c.joined_node.ensures) (joined_still c.is_negated.result (shapes c.loop-i.parts.items) c.loop-i.invariant.still)
+
+pub behind_branches-returns-clause-sound : goal.behind_branches-returns-clause-sound
+behind_branches-returns-clause-sound t c =
+    rw (ap shape c.still.ensures.0 ∙ c.joined_node.ensures)
+    (joined_sound c.is_negated.result (shapes c.loop-i.parts.items) (all_sound (shapes c.loop-i.parts.items) c.loop-i.invariant.built.sound))
+
+pub behind_branches-returns-clause-shape : goal.behind_branches-returns-clause-shape
+behind_branches-returns-clause-shape t c = λ regular groups.
+    let built = row_whole (around_tree c.args.look) _ _ c.args.children.now c.loop-i.i _ c.loop-i-test.false c.loop-i.invariant.built in
+    ap shape c.still.ensures.0
+    ∙ c.joined_node.ensures
+    ∙ ap (λ b. joined b (shapes c.loop-i.parts.items)) c.is_negated.ensures
+    ∙ ap (joined (is_negated_look c.args.look)) (built.patterns regular groups
+    ∙ each_is c.args.self.now.unicode groups c.args.look (map tree_of c.args.children.now) c.args.self.now.next_group (length c.args.self.now.matchers.items))
+
+pub behind_branches-returns-in_err-part-clause-refused : goal.behind_branches-returns-in_err-part-clause-refused
+behind_branches-returns-in_err-part-clause-refused t c =
+    let cause : IsClassCause c.args.self.now.unicode (classes (tree_of c.index-children-i.result)) c.in_err-part.field-0.0 =
+    rw c.loop-i.invariant.built.unicode at c.in_err-part.ensures.refused in
+    let all =
+    cause_in_row c.args.self.now.unicode c.args.children.now c.loop-i.i c.index-children-i.result c.in_err-part.field-0.0 c.loop-i-test.true
+    c.index-children-i.is cause in
+    search rules
+
+pub look_around-returns-then-not-is_behind-clause-shape : goal.look_around-returns-then-not-is_behind-clause-shape
+look_around-returns-then-not-is_behind-clause-shape t c =
     let unicode = c.args.self.now.unicode in
     let n = c.args.self.now.next_group in
     let k = length c.args.self.now.matchers.items in
-    asking_is unicode groups n k (tree_of c.args.child.now) c.args.look (shape c.still-2.result.node) (shape c.in_ok-body.body.value)
-    (c.is_one_char.ensures.none c.if-is_one_char.false unicode k) (ap shape c.still-2.ensures.0 ∙ c.asking_node.ensures)
-    (λ body. ap shape c.in_ok-body.ensures ∙ c.in_ok-translated.ensures.shape body groups) regular
+    let child = tree_of c.args.child.now in
+    if_ok c.asking.result
+    (λ translated h regular groups.
+    h regular groups
+    ∙ ap (λ b. re.ask b 0 (re_of unicode groups n k child)) c.is_negated-negated.ensures
+    ∙ ahead_is unicode groups n k c.args.look (re_of unicode groups n k child) child (c.is_one_char.ensures.none c.if-is_one_char.false unicode k)
+    (sym c.is_behind.ensures ∙ c.if-not-is_behind.true))
+    c.asking.ensures.shape
+
+pub look_around-returns-then-size-clause-shape : goal.look_around-returns-then-size-clause-shape
+look_around-returns-then-size-clause-shape t c =
+    let unicode = c.args.self.now.unicode in
+    let n = c.args.self.now.next_group in
+    let k = length c.args.self.now.matchers.items in
+    let child = tree_of c.args.child.now in
+    if_ok c.asking-then-size.result
+    (λ translated h regular groups.
+    h regular groups
+    ∙ ap (λ b. re.ask b c.size_in-size.result.least (re_of unicode groups n k child)) c.is_negated-negated.ensures
+    ∙ behind_is unicode groups n k c.args.look (re_of unicode groups n k child) child (size_of c.size_in-size.result)
+    (c.is_one_char.ensures.none c.if-is_one_char.false unicode k) (sym c.is_behind.ensures ∙ c.if-not-is_behind.false)
+    (c.size_in-size.ensures ∙ regular_size _ groups child regular) (subst (λ b. IsOnePart b child) (sym c.if-size.true) (long_part child)))
+    c.asking-then-size.ensures.shape
+
+pub look_around-returns-in_default-clause-shape : goal.look_around-returns-in_default-clause-shape
+look_around-returns-in_default-clause-shape t c =
+    let unicode = c.args.self.now.unicode in
+    let n = c.args.self.now.next_group in
+    let k = length c.args.self.now.matchers.items in
+    let child = tree_of c.args.child.now in
+    if_ok c.asking-in_default.result
+    (λ translated h regular groups.
+    h regular groups
+    ∙ ap (λ b. re.ask b c.size_in-size.result.least (re_of unicode groups n k child)) c.is_negated-negated.ensures
+    ∙ behind_is unicode groups n k c.args.look (re_of unicode groups n k child) child (size_of c.size_in-size.result)
+    (c.is_one_char.ensures.none c.if-is_one_char.false unicode k) (sym c.is_behind.ensures ∙ c.if-not-is_behind.false)
+    (c.size_in-size.ensures ∙ regular_size _ groups child regular) (other_part c.size_in-size.result.always c.args.child.now c.in_default.not-Alt))
+    c.asking-in_default.ensures.shape
+
+pub look_around-returns-in-Alt-clause-shape : goal.look_around-returns-in-Alt-clause-shape
+look_around-returns-in-Alt-clause-shape t c =
+    let unicode = c.args.self.now.unicode in
+    let n = c.args.self.now.next_group in
+    let k = length c.args.self.now.matchers.items in
+    let ts = all_trees c.deref.result.now in
+    let e : tree_of c.args.child.now ≡ alt (all_trees c.deref.result.now) =
+    ap tree_of c.in-Alt.is ∙ tree_alt c.in-Alt.children ∙ ap (λ es. alt (all_trees es)) (sym c.deref.ensures.value) in
+    let sized = rw e at c.size_in-size.ensures in
+    rw e
+    (if_ok c.behind_branches.result
+    (λ translated h regular groups.
+    h regular.1 groups
+    ∙ each_behind unicode groups n k c.args.look (re_of unicode groups n k (alt ts)) ts (size_of c.size_in-size.result)
+    (sym c.is_behind.ensures ∙ c.if-not-is_behind.false) (sized ∙ regular_size _ groups (alt ts) regular) c.if-size.false)
+    c.behind_branches.ensures.shape)
+
+pub look_around-returns-in-Alt-clause-groups : goal.look_around-returns-in-Alt-clause-groups
+unfolding group_count
+look_around-returns-in-Alt-clause-groups t c =
+    let e : tree_of c.args.child.now ≡ alt (all_trees c.deref.result.now) =
+    ap tree_of c.in-Alt.is ∙ tree_alt c.in-Alt.children ∙ ap (λ es. alt (all_trees es)) (sym c.deref.ensures.value) in
+    rw e (if_ok c.behind_branches.result (λ translated h regular. h regular.1) c.behind_branches.ensures.groups)
+
+pub look_around-returns-in-Alt-clause-matchers : goal.look_around-returns-in-Alt-clause-matchers
+unfolding classes
+look_around-returns-in-Alt-clause-matchers t c =
+    let e : tree_of c.args.child.now ≡ alt (all_trees c.deref.result.now) =
+    ap tree_of c.in-Alt.is ∙ tree_alt c.in-Alt.children ∙ ap (λ es. alt (all_trees es)) (sym c.deref.ensures.value) in
+    rw e c.behind_branches.ensures.matchers
+
+pub look_around-returns-in-Alt-clause-refused : goal.look_around-returns-in-Alt-clause-refused
+unfolding classes
+look_around-returns-in-Alt-clause-refused t c =
+    let e : tree_of c.args.child.now ≡ alt (all_trees c.deref.result.now) =
+    ap tree_of c.in-Alt.is ∙ tree_alt c.in-Alt.children ∙ ap (λ es. alt (all_trees es)) (sym c.deref.ensures.value) in
+    rw e c.behind_branches.ensures.refused
 
 pub translated-returns-in_ok-made-in-Conditional-clause-matchers : goal.translated-returns-in_ok-made-in-Conditional-clause-matchers
 unfolding classes

@@ -1,4 +1,6 @@
-use Rattle.std.proofs.Common.{◌≡◌, ◌∙◌, ℕ, List, [], ◌∷◌, length, length-append, get_or, replicate, Option, Some, None, refl, sym, ap, arith}
+use Rattle.std.proofs.Common.{◌≡◌, ◌∙◌, ◌⊎◌, ◌-◌, ◌^◌, ℕ, List, [], ◌∷◌, length, length-append, get_or, replicate, Option, Some, None, refl, sym, ap, subst, arith}
+use Rattle.fancy_regex_states.specs.declared.state.State.{State}
+use Rattle.fancy_regex_parts.specs.Tables.{AreStill}
 use Rattle.fancy_regex_parts.proofs.MarkLemmas.{grown_at, all_marked_right}
 use Rattle.fancy_regex_parts.proofs.table.PartTable.all_marked.Goals as goal
 
@@ -24,6 +26,7 @@ pub returns : goal.returns
 returns c =
     let invariant = c.loop-q.invariant in
     let states = c.args.states in
+    let reach : ℕ = c.farthest_reach-reach.result in
     let all : c.loop-q.q ≡ length states.items = omega (arith, c.len-q-end.ensures, c.loop-q-test.false, c.loop-q.auto.q-end, states.ok.0) in
     let count : c.len.result ≡ length states.items = omega (arith, c.len.ensures, states.ok.0) in (
       all_marked_right _
@@ -34,6 +37,10 @@ returns c =
             costs = c.in_ok-costs.ensures ∙ ap (λ (n : ℕ). replicate n 1) count;
             most = refl;
             writes = c.new.ensures.items;
+            reach = reach;
+            reaches = c.in_ok-reaches.ensures ∙ ap (λ (n : ℕ). replicate n reach) (omega (arith, c.len-2.ensures, states.ok.0));
+            reach_is = subst (λ (xs : List State). (reach ≡ 2 ^ 64 - 1) ⊎ (AreStill xs × (reach ≡ 0))) c.deref.ensures.value c.farthest_reach-reach.ensures.far;
+            still = λ still. c.farthest_reach-reach.ensures.still (subst AreStill (sym c.deref.ensures.value) still);
           })
           c.requires,
       refl,

@@ -17,4 +17,5 @@ returns c holds =
       right = λ k below. c.loop-q.invariant k (omega (arith, below, c.len-q-end.ensures, c.loop-q-test.false, states.ok.0));
       light = omega (arith, leb-true _ _ holds, c.weight.ensures, c.len.ensures, states.ok.0, states.ok.1);
       cheap = omega (arith, c.len-2.ensures, states.ok.0);
+      still = c.requires;
     }

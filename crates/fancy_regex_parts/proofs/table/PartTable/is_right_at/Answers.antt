@@ -3,7 +3,7 @@ use Rattle.std.proofs.lemmas.Bool.{ltb-true}
 use Rattle.std.proofs.lemmas.List.{get_or_read}
 use Rattle.fancy_regex_states.specs.Attempts.{NamesBelow}
 use Rattle.fancy_regex_states.specs.First.{state_at}
-use Rattle.fancy_regex_parts.specs.Tables.{cost_of, owed, may_write, leads_to_write}
+use Rattle.fancy_regex_parts.specs.Tables.{cost_of, reach_of, needed_reach_of, owed, may_write, leads_to_write}
 use Rattle.fancy_regex_states.specs.declared.state.State.TheVariants.{Match}
 use Rattle.fancy_regex_parts.proofs.table.PartTable.is_right_at.Goals as goal
 
@@ -19,6 +19,8 @@ returns c holds =
       marked = c.has_mark.ensures c.if-not-has_mark.false;
       cheap = omega (arith, c.cost-cost.ensures, c.if-cost-len.false, c.len-2.ensures, table.states.ok.0);
       paid = subst (λ s. owed table s + 1 ≤ cost_of table c.args.q) state paid;
+      reaches = subst (λ s. needed_reach_of table s ≤ reach_of table c.args.q) state
+          (omega (arith, c.if-reach-needed_reach.false, c.reach.ensures, c.needed_reach.ensures));
       no_write = subst (λ s. may_write table.writes.items c.args.q ≡ false → leads_to_write table.writes.items s ≡ false) state
           (c.is_right_of_writes.ensures c.if-not-is_right_of_writes.false);
     }

@@ -6,7 +6,7 @@ use Rattle.fancy_regex_parts.specs.Tables.{known_cost, table_weight}
 use Rattle.fancy_regex_parts.specs.Layers.{HasWays}
 use Rattle.fancy_regex_parts.specs.Ways.{ways_of, text_view}
 use Rattle.std.specs.Prelude.{IfSome}
-use Rattle.fancy_regex_regular.specs.Regulars.{LooksFrom}
+use Rattle.fancy_regex_regular.specs.Regulars.{LooksFrom, lowest_asked}
 use Rattle.fancy_regex_regular.specs.Inputs.{MemoryServes}
 use Rattle.fancy_regex_regular.specs.Iterations.{IsPaidWithin, paid_before, paid_by}
 use Rattle.fancy_regex_regular.specs.Kept.{IsReady, IsTrueFor}
@@ -74,7 +74,7 @@ bound c b pattern is =
     let most = rw (c.context-context.ensures.table_is, c.context-context.ensures.entry_is, c.new-counted.ensures.text, c.new-counted.ensures.count, c.last_start.ensures) at c.find.ensures.bound in
     rw c.find.ensures.leaves.base
     (looks_most c.args.self.now c.args.text.now c.args.input.now pattern is (omega (arith, c.if-input.false)) c.requires.range
-    c.begin.new.memory.parts.recall.base c.args.steps.now (look_count c.find.new.text) b.low most)
+    c.begin.new.memory.parts.recall.base c.args.steps.now (look_count c.find.new.text) (omega (arith, b.low)) most)
 
 pub returns-in_err-span-clause-at_most : goal.returns-in_err-span-clause-at_most
 returns-in_err-span-clause-at_most c low pattern is =
@@ -104,7 +104,7 @@ returns-clause-shared c low may pattern is =
 
 -- what is paid is of the text, also where memory ran out
 paid : (c : After-find) → IsReady c.context-context.result c.args.text.now c.args.input.now c.begin.new.memory
-    → MemoryServes c.begin.new.memory.kept c.args.input.now → IsPaidWithin c.args.self.now c.args.text.now c.find.new.memory
+    → MemoryServes c.begin.new.memory.kept c.args.input.now (lowest_asked c.args.self.now c.args.input.now) → IsPaidWithin c.args.self.now c.args.text.now c.find.new.memory
 paid c is_ready serves =
     paid_of c.args.self.now c.args.text.now c.args.input.now c.find.new.memory c.begin.new.memory.kept serves (kept c is_ready)
     (omega (arith, c.find.ensures.leaves.base, is_ready.low, c.if-input.false, c.requires.range))

@@ -8,7 +8,8 @@ use Rattle.fancy_regex_meaning.specs.Positions.{boundaries}
 use Rattle.fancy_regex_class.specs.Looks.{looked_text, look_count}
 use Rattle.fancy_regex_class.specs.RunInputs.{match_slots}
 use Rattle.fancy_regex_parts.specs.Find.{earliest}
-use Rattle.fancy_regex_parts.specs.Frames.{IsPlace}
+use Rattle.fancy_regex_parts.specs.Frames.{IsInReach}
+use Rattle.fancy_regex_parts.specs.Tables.{lowest_of}
 use Rattle.fancy_regex_parts.specs.Layers.{CanAsk, HasWays, IsTrueOf}
 use Rattle.fancy_regex_parts.specs.Walk.{apply as walk_apply}
 use Rattle.fancy_regex_parts.specs.Ways.{Ways, ways_of, text_view}
@@ -126,7 +127,8 @@ returns-clause-answer c pattern is =
     let input = c.args.input.now in
     let ways = ways_of s.go in
     let context = c.context-context.ensures in
-    let place : IsPlace text c.begin.new.memory.parts.recall.base c.in-Some.start = rw c.new-looked.ensures.text at (rw c.in-Some.is at c.in_ok-found.ensures.place) in
+    let place : IsInReach self.table text c.begin.new.memory.parts.recall.base self.entry c.in-Some.start =
+    rw (context.table_is, context.entry_is, c.new-looked.ensures.text) at (rw c.in-Some.is at c.in_ok-found.ensures.place) in
     let way = way_of_match self.unicode self.table.states.items self.entry self.matchers.items pattern is.states text input s c.requires.first
     (omega (arith, c.if-input.false)) c.requires.range c.in-Some.start c.in-Some.end place.boundary.0 (sym (found_is m pattern is) ∙ c.in-Some.is) in
     let looked : looked_text c.find.new.text ≡ text = c.find.ensures.leaves.looks.text ∙ c.new-looked.ensures.text in
@@ -162,7 +164,7 @@ found_most : (c : After-find) → IsReady c.context-context.result c.args.text.n
 found_most c b pattern is =
     let most = rw (c.context-context.ensures.table_is, c.context-context.ensures.entry_is, c.new-looked.ensures.text, c.new-looked.ensures.count, c.last_start-last.ensures) at c.find.ensures.bound in
     looks_most c.args.self.now c.args.text.now c.args.input.now pattern is (omega (arith, c.if-input.false)) c.requires.range
-    c.begin.new.memory.parts.recall.base c.args.steps.now (look_count c.find.new.text) b.low most
+    c.begin.new.memory.parts.recall.base c.args.steps.now (look_count c.find.new.text) (omega (arith, b.low)) most
 
 -- where nothing is found
 none_most : (c : After-find) → IsReady c.context-context.result c.args.text.now c.args.input.now c.begin.new.memory
@@ -183,11 +185,12 @@ returns-clause-at_most c low pattern is =
     let text = c.args.text.now in
     let context = c.context-context.ensures in
     let found = found_most (goal.at.returns-clause-at_most c).After-find (ready (goal.at.returns-clause-at_most c).After-begin) in
-    let place : IsPlace text c.begin.new.memory.parts.recall.base c.in-Some.start =
-    rw c.new-looked.ensures.text at (rw c.in-Some.is at c.in_ok-found.ensures.place) in
+    let place : IsInReach self.table text c.begin.new.memory.parts.recall.base self.entry c.in-Some.start =
+    rw (context.table_is, context.entry_is, c.new-looked.ensures.text) at (rw c.in-Some.is at c.in_ok-found.ensures.place) in
     let looked : looked_text c.find.new.text ≡ text = c.find.ensures.leaves.looks.text ∙ c.new-looked.ensures.text in
     let most = rw (context.table_is, context.entry_is, looked, c.find.ensures.leaves.base) at c.in_ok-walk.ensures.at_most in
-    let all = looks_for_groups self text c.args.input.now pattern is c.begin.new.memory.parts.recall.base c.in-Some.start c.args.steps.now
+    let all = looks_for_groups self text c.args.input.now pattern is c.begin.new.memory.parts.recall.base (lowest_of self.table self.entry c.in-Some.start)
+    c.args.steps.now
     (look_count c.find.new.text) (look_count c.walk.new.text) place.low (found pattern is) most in
     let b : look_count c.walk.new.text ≤ c.args.steps.now + 12 * (tree_state_weight pattern.groups pattern.tree * tree_state_weight pattern.groups pattern.tree)
     * (length text - c.walk.new.memory.recall.base + 1) = rw (c.walk.ensures.leaves.base, c.find.ensures.leaves.base) all in
