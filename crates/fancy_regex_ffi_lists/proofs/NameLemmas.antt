@@ -3,7 +3,7 @@ use Rattle.std.specs.Prelude.{Some, chars, IsUtf8}
 use Rattle.std.proofs.Common.{◌≡◌, ℕ, zero, suc, ◌+◌, ◌-◌, ◌<◌, List, [], ◌∷◌, ◌++◌, Option, ap, sym, ◌∙◌, arith, append_assoc}
 use Rattle.std.proofs.lemmas.Str.{encodes-chars}
 use Rattle.fancy_regex_tree.specs.Numbering.{Names}
-use Rattle.fancy_regex.specs.GroupNames.{name_at}
+use Rattle.fancy_regex_search.specs.GroupNames.{name_at}
 use Rattle.fancy_regex_ffi_lists.specs.Names.{name_line, name_lines}
 
 -- the line of a name is the name and a newline

@@ -1,7 +1,7 @@
 -- The names of the groups of a regex, line by line.
 use Rattle.std.specs.Prelude.{ℕ, zero, suc, ◌+◌, List, [], ◌∷◌, ◌++◌, Option, Some, None, encode_utf8_all}
 use Rattle.fancy_regex_tree.specs.Numbering.{Names}
-use Rattle.fancy_regex.specs.GroupNames.{name_at}
+use Rattle.fancy_regex_search.specs.GroupNames.{name_at}
 
 -- the line of a name: its characters in UTF-8, and a newline
 abbrev pub name_line : Option (List ℕ) → List ℕ
