@@ -25,6 +25,7 @@ pub mod EndLemmas
 pub mod RegularLemmas
 pub mod RegularAnswerLemmas
 pub mod CharTestLemmas
+pub mod ContextLemmas
 pub mod AnswerLemmas
 pub mod ShapeLemmas
 pub mod LineEndLemmas

@@ -12,7 +12,7 @@ ghost use Rattle.fancy_regex_linear.specs.Before.{HasMarksBefore, IsBeforeOf};
 ghost use Rattle.fancy_regex_linear.specs.Passing.{RefusesWideIf};
 ghost use Rattle.fancy_regex_table.specs.Tables.{IsTable};
 
-use crate::alone::by_starts_alone;
+use crate::alone::{Alone, by_starts_alone};
 use crate::before::by_before_alone;
 use crate::build::{Translator, is_supported};
 use crate::by_table::TableSearch;
@@ -327,6 +327,12 @@ impl Easy {
                 let context = self.context(input);
                 let mut counted = Counted::new(text, steps);
                 let alone = by_starts_alone(&context, &mut counted, it, input.first);
+                if let Alone::Unknown(_) = alone {
+                    // Made anew, so that no value of it is kept while the table is asked.
+                    let own = self.context(input);
+                    let later = from_alone(&own, &mut counted, it, alone, self.groups, memory)?;
+                    return Ok(later);
+                }
                 let span = from_alone(&context, &mut counted, it, alone, self.groups, memory)?;
                 return Ok(span);
             }

@@ -190,7 +190,8 @@ fn follow(
     requires ready { CanAsk context.now text.old memory.old }
     requires place { IsInReach context.now.table.now (looked_text text.old) memory.old.recall.base q at }
     ensures tasks { OnOk result (ForTrueWays context.now text.old memory.old (λ ways. last_first tasks.new.items
-        ≡ walk_tasks ways (char_before (looked_text text.old) at) (char_at (looked_text text.old) at) (state_at context.now.table.now.states.items q) at
+        ≡ walk_tasks ways (char_before (looked_text text.old) at) (char_at (looked_text text.old) at)
+        (state_at context.now.table.now.states.items q) at
         ++ last_first tasks.old.items)) }
     ensures left { OnOk result (AreLeft context.now.table.now (looked_text text.old) memory.old.recall.base q at
         (last_first tasks.old.items) (last_first tasks.new.items)) }
@@ -233,8 +234,8 @@ fn part_end(
     }
 }
 
-/// Leaves what is to be done at a state at the byte offset `at`, between the characters `before` and `after`, and after it. `end` is that of
-/// `part_end`. The error is want of memory.
+/// Leaves what is to be done at a state at the byte offset `at`, between the characters `before` and `after`, and after it. `end` is that
+/// of `part_end`. The error is want of memory.
 fn leave_tasks(
     tasks: &mut Vec<WalkTask>,
     state: State,

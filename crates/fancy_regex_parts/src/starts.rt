@@ -29,7 +29,8 @@ pub fn find(
 ) -> Result<Option<(usize, usize)>, AllocError>
     requires ready { CanAsk context.now text.old memory.old }
     requires entry { context.now.entry < length context.now.table.now.states.items }
-    requires starts { AreStarts (looked_text text.old) memory.old.recall.base from (lowest_of context.now.table.now context.now.entry from) last }
+    requires starts { AreStarts (looked_text text.old) memory.old.recall.base from
+        (lowest_of context.now.table.now context.now.entry from) last }
     ensures found { IfOk result (λ found. ForTrueWays context.now text.old memory.old
         (λ ways. found ≡ earliest (ways.end context.now.entry) (boundaries (looked_text text.old) from last))) }
     ensures place { IfOk result (λ found. IfSome found (λ span.

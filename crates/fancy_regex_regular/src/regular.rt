@@ -163,7 +163,8 @@ impl Regular {
         ensures answer { IfOk result (λ found. IsSlots self.now text.now input.now (option_map (λ v. v.items) found)) }
         ensures at_most { OnOk result (input.now.first ≤ input.now.range.end
             → LooksForGroupsFrom self.now text.now memory.new.parts.recall.base steps.old steps.new) }
-        ensures anew { memory.old.kept ≡ None → input.now.first ≤ input.now.range.end → memory.new.parts.recall.base ≡ lowest_asked self.now input.now }
+        ensures anew { memory.old.kept ≡ None → input.now.first ≤ input.now.range.end
+            → memory.new.parts.recall.base ≡ lowest_asked self.now input.now }
         ensures counts { steps.old ≤ steps.new }
         ensures kept { IsKeptOf self.now text.now memory.new }
     {
@@ -195,9 +196,10 @@ impl Regular {
     /// Where the first match of a search starts and ends, as byte offsets; `None` if there is none. `steps` counts the looks at the text.
     /// It never falls, and grows by at most four times the pattern's weight for each place from the first start to the end of the text,
     /// and for four more before it for each character that look-behinds reach back, also where memory runs out; here `\R` weighs 16,
-    /// `\Z` 7 and a look-behind more by the characters that it steps back over, since they are several states. Where there is an answer it grows by at
-    /// least one for each start that has no match, up to the one that is found, unless it comes to the last `u64`. The memory may have
-    /// been used by other searches before, of this pattern or another. The error is want of memory; the memory may be used again.
+    /// `\Z` 7 and a look-behind more by the characters that it steps back over, since they are several states. Where there is an answer
+    /// it grows by at least one for each start that has no match, up to the one that is found, unless it comes to the last `u64`. The
+    /// memory may have been used by other searches before, of this pattern or another. The error is want of memory; the memory may be
+    /// used again.
     pub fn find_span_in(
         &self,
         text: &str,
@@ -239,7 +241,8 @@ impl Regular {
         ensures kept { IsKeptOf self.now text.now memory.new }
         ensures at_most { input.now.first ≤ input.now.range.end
             → LooksFrom self.now text.now memory.new.parts.recall.base steps.old steps.new }
-        ensures anew { memory.old.kept ≡ None → input.now.first ≤ input.now.range.end → memory.new.parts.recall.base ≡ lowest_asked self.now input.now }
+        ensures anew { memory.old.kept ≡ None → input.now.first ≤ input.now.range.end
+            → memory.new.parts.recall.base ≡ lowest_asked self.now input.now }
         ensures shared { IfOk result (λ found. input.now.first ≤ input.now.range.end
             → LooksOn self.now input.now memory.old memory.new steps.old steps.new found) }
         ensures paid { input.now.first ≤ input.now.range.end → IsPaidWithin self.now text.now memory.new.parts }

@@ -143,6 +143,11 @@ pub record IsFreshAt (at : ℕ) (place : Place) : Type 0 where
   pub at_is : place.at ≡ at
   pub start_is : place.start ≡ at
 
+-- an ASCII character ends the attempts that are under way, and a search begins after it
+pub record IsIdleAfter (place : Place) (byte : ℕ) (next : Place) : Type 0 where
+  pub ascii : byte < 128
+  pub fresh : IsFreshAt (place.at + 1) next
+
 -- what was found lies in the range
 abbrev pub IsInRange : List ℕ → ℕ → ℕ → Passed → Type 0
 IsInRange text low stop (P.Match start end read) = (low ≤ start) × (start ≤ read) × (read ≤ stop) × IsCharBoundary text start

@@ -76,7 +76,7 @@ pub struct Table {
 }
 
 impl Table {
-    ghost use Rattle.fancy_regex_table.specs.Tables.{IsTable, IsSearchOf, IsPassed, Stands, IsStartAt, IsFreshRow, HasColumn, IsOnward, IsRunTo, IsLater, IsFreshAt, IsPlaceIn, IsAsciiAt, IsWideTo, LiesAt, IsInRange};
+    ghost use Rattle.fancy_regex_table.specs.Tables.{IsTable, IsSearchOf, IsPassed, Stands, IsStartAt, IsFreshRow, HasColumn, IsOnward, IsRunTo, IsLater, IsFreshAt, IsIdleAfter, IsPlaceIn, IsAsciiAt, IsWideTo, LiesAt, IsInRange};
     ghost use Rattle.fancy_regex_table.specs.Wides.{IsWideAt};
     ghost use Rattle.fancy_regex_table.specs.Cells.{TellsBy};
     ghost use Rattle.fancy_regex_table.specs.Sorts.{sort_at};
@@ -158,12 +158,61 @@ impl Table {
         let Some(row) = self.first_row(matchers, before) else {
             return Passed::Unknown { from, read: from };
         };
-        let first = Place {
+        let mut place = Place {
             row,
             at: from,
             start: from,
             last: from,
         };
+        self.run(text, &mut place, stop);
+        if self.goes_on(text, row, place, stop) {
+            return self.pass_on(matchers, text, place, stop, at_end);
+        }
+        if place.at >= stop {
+            return self.at_stop(place, at_end);
+        }
+        self.outcome(matchers, text, place, stop)
+    }
+
+    /// Whether the character at this place is not ASCII, or ends the attempts that are under way where the next one may begin another, as
+    /// far as this row tells. The row after the character may tell otherwise.
+    #[inline(always)]
+    fn goes_on(&self, text: &str, row: u32, place: Place, stop: usize) -> bool
+        requires { stop ≤ length text.now }
+    {
+        if place.at >= stop {
+            return false;
+        }
+        let bytes = text.as_bytes();
+        let byte = bytes[place.at];
+        if byte >= 128 {
+            return true;
+        }
+        match cell_at(&self.cells, self.classes[byte as usize], place.row) {
+            Cell::Idle if place.at + 1 < stop => self.may_begin(bytes[place.at + 1], row),
+            _ => false,
+        }
+    }
+
+    /// What a pass finds from this place on.
+    // Not inlined: the loops keep their values in registers, and most passes end before.
+    #[inline(never)]
+    fn pass_on(
+        &self,
+        matchers: &[CharClassMatcher],
+        text: &str,
+        first: Place,
+        stop: usize,
+        at_end: bool,
+    ) -> Passed
+        requires place { IsPlaceIn text.now stop first }
+        requires stop { stop ≤ length text.now }
+        requires end { at_end ≡ true → stop ≡ length text.now }
+        ensures range { IsInRange text.now first.start stop result }
+        ensures passed { (parts : Parts) (rules : Rules) (s : Search) (table : IsTable parts self.now) → IsSearchOf parts rules s
+            → parts.matchers ≡ matchers.now → s.text ≡ text.now → s.stop ≡ stop
+            → Stands parts.matchers self.now.asked self.now.unicode table.rows s first → IsPassed s result }
+    {
         let place = self.run_on(matchers, text, first, stop);
         if place.at >= stop {
             return self.at_stop(place, at_end);
@@ -182,17 +231,99 @@ impl Table {
             → s.text ≡ text.now → s.stop ≡ stop → Stands parts.matchers self.now.asked self.now.unicode table.rows s first
             → Stands parts.matchers self.now.asked self.now.unicode table.rows s result }
     {
-        let place = self.run(text, first, stop);
+        let place = self.run_attempts(text, first, stop);
         if place.at < stop && text.as_bytes()[place.at] >= 128 {
             return self.run_wide(matchers, text, place, stop);
         }
         place
     }
 
-    /// The place to which the characters from this one on lead, as long as each is ASCII and leads to a row.
+    /// The place to which the attempts from this one on lead, as long as an ASCII character ends those that are under way and the next
+    /// character may begin another.
+    #[inline(always)]
+    fn run_attempts(&self, text: &str, first: Place, stop: usize) -> Place
+        requires place { IsPlaceIn text.now stop first }
+        requires stop { stop ≤ length text.now }
+        ensures run { IsRunTo text.now first stop result }
+        ensures stands { (parts : Parts) (rules : Rules) (s : Search) (table : IsTable parts self.now) → IsSearchOf parts rules s
+            → s.text ≡ text.now → s.stop ≡ stop → Stands parts.matchers self.now.asked self.now.unicode table.rows s first
+            → Stands parts.matchers self.now.asked self.now.unicode table.rows s result }
+    {
+        let mut place = first;
+        'attempts: while place.at < stop {
+            match self.next_attempt(text, place, stop) {
+                Some(next) => place = self.run_from(text, next, stop),
+                None => return place,
+            }
+        }
+        place
+    }
+
+    /// The place after the character at this one, if it is ASCII and ends the attempts that are under way, and the next character may
+    /// begin another.
+    #[inline(always)]
+    fn next_attempt(&self, text: &str, place: Place, stop: usize) -> Option<Place>
+        requires place { IsPlaceIn text.now stop place }
+        requires inside { (place.at < stop) × (stop ≤ length text.now) }
+        ensures later { IfSome result (IsLater text.now place stop) }
+        ensures stands { (parts : Parts) (rules : Rules) (s : Search) (table : IsTable parts self.now) → IsSearchOf parts rules s
+            → s.text ≡ text.now → s.stop ≡ stop → Stands parts.matchers self.now.asked self.now.unicode table.rows s place
+            → IfSome result (Stands parts.matchers self.now.asked self.now.unicode table.rows s) }
+    {
+        let bytes = text.as_bytes();
+        let Some(next) = self.step_idle(bytes[place.at], place) else {
+            return None;
+        };
+        if next.at < stop && self.may_begin(bytes[next.at], next.row) {
+            return Some(next);
+        }
+        None
+    }
+
+    /// The place after the character at this one, whose first byte this is, if it is ASCII and ends the attempts that are under way, and
+    /// there is a row for searches that begin there.
+    #[inline(always)]
+    fn step_idle(&self, byte: u8, place: Place) -> Option<Place>
+        requires next { place.at + 1 < 2 ^ 64 }
+        ensures fresh { IfSome result (IsIdleAfter place byte) }
+        ensures stands { (parts : Parts) (rules : Rules) (s : Search) (table : IsTable parts self.now) → IsSearchOf parts rules s
+            → (byte < 128 → IsAsciiAt s.text place.at byte) → place.at < s.stop
+            → Stands parts.matchers self.now.asked self.now.unicode table.rows s place
+            → IfSome result (Stands parts.matchers self.now.asked self.now.unicode table.rows s) }
+    {
+        let class = self.classes[byte as usize];
+        match cell_at(&self.cells, class, place.row) {
+            Cell::Idle => self.fresh_place(class as usize, place.at + 1),
+            _ => None,
+        }
+    }
+
+    /// Whether a match may begin with the character whose first byte this is, as far as this row tells; not if it is not ASCII.
+    #[inline(always)]
+    fn may_begin(&self, byte: u8, row: u32) -> bool {
+        match cell_at(&self.cells, self.classes[byte as usize], row) {
+            Cell::Idle | Cell::Unknown => false,
+            _ => true,
+        }
+    }
+
+    /// Goes on to the place to which the characters from this one on lead, as long as each is ASCII and leads to a row.
     // Not inlined: the loop alone keeps its values in registers.
     #[inline(never)]
-    fn run(&self, text: &str, first: Place, stop: usize) -> Place
+    fn run(&self, text: &str, place: &mut Place, stop: usize)
+        requires place { IsPlaceIn text.now stop place.old }
+        requires stop { stop ≤ length text.now }
+        ensures run { IsRunTo text.now place.old stop place.new }
+        ensures stands { (parts : Parts) (rules : Rules) (s : Search) (table : IsTable parts self.now) → IsSearchOf parts rules s
+            → s.text ≡ text.now → s.stop ≡ stop → Stands parts.matchers self.now.asked self.now.unicode table.rows s place.old
+            → Stands parts.matchers self.now.asked self.now.unicode table.rows s place.new }
+    {
+        *place = self.run_from(text, *place, stop);
+    }
+
+    /// That place.
+    #[inline(always)]
+    fn run_from(&self, text: &str, first: Place, stop: usize) -> Place
         requires place { IsPlaceIn text.now stop first }
         requires stop { stop ≤ length text.now }
         ensures run { IsRunTo text.now first stop result }
@@ -201,9 +332,10 @@ impl Table {
             → Stands parts.matchers self.now.asked self.now.unicode table.rows s result }
     {
         let bytes = text.as_bytes();
+        let cells: &[Cell] = &self.cells;
         let mut place = first;
         'chars: while place.at < stop {
-            match self.step(bytes[place.at], place) {
+            match self.step(cells, bytes[place.at], place) {
                 Some(next) => place = next,
                 None => return place,
             }
@@ -213,8 +345,7 @@ impl Table {
 
     /// The place to which the characters from this one on lead, as long as each leads to a row, or is one that is not ASCII after which no
     /// attempt is under way.
-    // Not inlined: the loop of `run` has no calls, so it keeps no registers for others.
-    #[inline(never)]
+    #[inline(always)]
     fn run_wide(
         &self,
         matchers: &[CharClassMatcher],
@@ -259,7 +390,7 @@ impl Table {
     {
         let byte = text.as_bytes()[place.at];
         if byte < 128 {
-            return self.step(byte, place);
+            return self.step(&self.cells, byte, place);
         }
         self.wide_step(matchers, text, place, stop)
     }
@@ -393,9 +524,10 @@ impl Table {
         }
     }
 
-    /// The place after the character at this one, whose first byte this is, if it is ASCII and leads to a row.
+    /// The place after the character at this one, whose first byte this is, if it is ASCII and leads to a row. The cells are the table's.
     #[inline(always)]
-    pub(crate) fn step(&self, byte: u8, place: Place) -> Option<Place>
+    pub(crate) fn step(&self, cells: &[Cell], byte: u8, place: Place) -> Option<Place>
+        requires cells { cells.now ≡ self.now.cells.items }
         requires next { place.at + 1 < 2 ^ 64 }
         requires order { place.start ≤ place.at }
         ensures onward { IfSome result (IsOnward place byte) }
@@ -404,7 +536,7 @@ impl Table {
             → Stands parts.matchers self.now.asked self.now.unicode table.rows s place
             → IfSome result (Stands parts.matchers self.now.asked self.now.unicode table.rows s) }
     {
-        match cell_at(&self.cells, self.classes[byte as usize], place.row) {
+        match cell_at(cells, self.classes[byte as usize], place.row) {
             Cell::Next { begins, ends, row } => Some(Place {
                 row,
                 at: place.at + 1,
@@ -465,26 +597,26 @@ impl Table {
                 start: begun_at(begins, place.at, place.start),
                 last: begun_at(ends, place.at, place.last),
             }),
-            Cell::Idle => self.fresh_place(c),
+            Cell::Idle => self.fresh_place(c.class as usize, c.next),
             _ => None,
         }
     }
 
-    /// The place after the character where no attempt is under way, if there is a row for searches that begin there.
+    /// The place `at` after a character of this class where no attempt is under way, if there is a row for searches that begin there.
     #[inline(always)]
-    fn fresh_place(&self, c: WideChar) -> Option<Place>
-        ensures place { IfSome result (IsFreshAt c.next) }
+    fn fresh_place(&self, class: usize, at: usize) -> Option<Place>
+        ensures place { IfSome result (IsFreshAt at) }
         ensures row { (parts : Parts) (table : IsTable parts self.now) (d : Option ℕ)
-            → HasColumn parts table.columns self.now.asked d c.class
+            → HasColumn parts table.columns self.now.asked d class
             → IfSome result (λ place. IsFreshRow self.now.fresh.items
             (sort_at parts.matchers self.now.asked self.now.unicode d) place.row) }
     {
-        match self.row_of_class(c.class as usize) {
+        match self.row_of_class(class) {
             Some(row) => Some(Place {
                 row,
-                at: c.next,
-                start: c.next,
-                last: c.next,
+                at,
+                start: at,
+                last: at,
             }),
             None => None,
         }

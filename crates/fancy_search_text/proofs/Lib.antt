@@ -1,3 +1,4 @@
+pub mod DigitLemmas
 pub mod LineLemmas
 pub mod MemberLemmas
 pub mod PieceLemmas

@@ -1,6 +1,6 @@
 //! The matches of a regex in a text, as lines. Offsets are in bytes, in decimal digits.
 
-ghost use Rattle.std.specs.Prelude.{◌≡◌, ◌≢◌, ◌++◌, IfOk, IfErr, OnOk, codes, string_bytes};
+ghost use Rattle.std.specs.Prelude.{◌≡◌, ◌≢◌, ◌≤◌, ◌+◌, ◌++◌, IfOk, IfErr, OnOk, codes, drop, length, replicate, string_bytes, take};
 ghost use Rattle.fancy_regex.specs.Error.TheVariants.{Memory};
 ghost use Rattle.fancy_regex.specs.IterationErrors.{IsErrorOfIteration};
 ghost use Rattle.fancy_regex.specs.IterationLimits.{IterationStays};
@@ -10,7 +10,7 @@ ghost use Rattle.fancy_regex.specs.TextMatches.{matches_of, IsErrorOfSearch};
 ghost use Rattle.fancy_search_text.specs.Spans.{AreGroupSpans};
 
 use fancy_regex::{Captures, Match, Regex, Result, laws_of_items};
-use itoa::Buffer;
+use itoa::write_digits;
 use std::alloc::{AllocError, Global};
 
 /// A line `START..END` for each match in the text. `RuntimeError` if a search exceeds a limit, or `Memory`.
@@ -23,8 +23,7 @@ pub fn span_lines(alloc: Global, regex: &Regex, text: &str) -> Result<String>
     let mut lines = String::new(alloc);
     let mut matches = regex.find_iter(alloc, text);
     while let Some(found) = matches.next() {
-        write_span(&mut lines, found?)?;
-        lines.push('\n')?;
+        write_span_line(&mut lines, found?)?;
     }
     Ok(lines)
 }
@@ -67,12 +66,38 @@ fn write_groups(
     Ok(())
 }
 
+/// The most bytes of a span's text: two offsets of at most twenty digits, and two dots.
+const LONGEST_SPAN: usize = 42;
+
 /// Appends the span of a match as `START..END`.
 fn write_span(line: &mut String, found: Match<'_>) -> std::result::Result<(), AllocError>
     ensures { OnOk result (string_bytes line.new ≡ string_bytes line.old ++ span_text (found.entry.start, found.entry.end)) }
 {
-    let mut digits = Buffer::new();
-    line.push_str(digits.format(found.start()))?;
-    line.push_str("..")?;
-    line.push_str(digits.format(found.end()))
+    let mut text = [b'.'; LONGEST_SPAN];
+    let first = put_span(&mut text, found.start(), found.end());
+    line.push_str(unsafe { str::from_utf8_unchecked(&text[first..]) })
+}
+
+/// Appends the span of a match as `START..END`, and the end of the line.
+#[inline(always)]
+fn write_span_line(line: &mut String, found: Match<'_>) -> std::result::Result<(), AllocError>
+    ensures { OnOk result (string_bytes line.new
+        ≡ (string_bytes line.old ++ span_text (found.entry.start, found.entry.end)) ++ codes "\n") }
+{
+    let mut text = [b'.'; LONGEST_SPAN + 1];
+    text[LONGEST_SPAN] = b'\n';
+    let first = put_span(&mut text, found.start(), found.end());
+    line.push_str(unsafe { str::from_utf8_unchecked(&text[first..]) })
+}
+
+/// Puts `START..END` at the end of the text's first bytes, which are dots, as many as a span has at most. Answers where it begins.
+#[inline(always)]
+fn put_span(text: &mut [u8], start: usize, end: usize) -> usize
+    requires long { 42 ≤ length text.old }
+    requires dots { take 42 text.old ≡ replicate 42 46 }
+    ensures written { drop result text.new ≡ span_text (start, end) ++ drop 42 text.old }
+    ensures place { result + length (span_text (start, end)) ≡ 42 }
+{
+    let last = write_digits(end as u64, text, LONGEST_SPAN);
+    write_digits(start as u64, text, last - 2)
 }

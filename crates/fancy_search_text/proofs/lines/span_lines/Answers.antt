@@ -1,5 +1,5 @@
 use Rattle.std.proofs.Common.{◌≡◌, ◌∙◌, ◌∷◌, ◌++◌, ap, rules, arith, sym}
-use Rattle.std.specs.Prelude.{codes, string_bytes}
+use Rattle.std.specs.Prelude.{string_bytes}
 use Rattle.std.proofs.lemmas.Result.{err_from_is_err_and}
 use Rattle.std.proofs.lemmas.Grind.{common_steps}
 use Rattle.fancy_regex.specs.SearchConfig.{SearchConfig}
@@ -50,10 +50,7 @@ loop-found-preserved c =
     record {
       lines =
           let out = string_bytes c.loop-found.lines in
-          ap (λ xs. xs ++ span_lines after) (
-          c.in_ok-push.ensures.bytes ∙ ap (λ xs. string_bytes c.write_span.new.line ++ xs) (c.in_ok-push.ensures.ascii (omega arith))
-          ∙ ap (λ xs. xs ++ codes "\n") c.in_ok-write_span.ensures
-          )
+          ap (λ xs. xs ++ span_lines after) c.in_ok-write_span_line.ensures
           ∙ line_more (λ m. span_text (m.start, m.end)) out (span_text (found.start, found.end)) gave.0 before after gave.1 (ap span_text gave.2)
           ∙ c.loop-found.invariant.lines;
       text = seen ∙ c.loop-found.invariant.text;
@@ -85,14 +82,9 @@ returns-in_err-found-clause-passes c =
     rw (p.1, p.2) (λ other. iterated_fails s text match_iter.input.config match_iter.state (remaining_matches s text match_iter.input.config match_iter.state) c.loop-found.invariant.config
     c.loop-found.invariant.progress _ told)
 
-pub returns-in_err-write_span-clause-fails : goal.returns-in_err-write_span-clause-fails
-returns-in_err-write_span-clause-fails c =
-    let p = err_from_is_err_and c.from_residual-in_err-write_span.result c.from_residual-in_err-write_span.ensures.1 in
-    rw (p.1, p.2) (memory_is_error c.args.regex.now.meta.options (string_bytes c.args.regex.now.meta.pattern) c.args.text.now)
-
-pub returns-in_err-push-clause-fails : goal.returns-in_err-push-clause-fails
-returns-in_err-push-clause-fails c =
-    let p = err_from_is_err_and c.from_residual-in_err-push.result c.from_residual-in_err-push.ensures.1 in
+pub returns-in_err-write_span_line-clause-fails : goal.returns-in_err-write_span_line-clause-fails
+returns-in_err-write_span_line-clause-fails c =
+    let p = err_from_is_err_and c.from_residual-in_err-write_span_line.result c.from_residual-in_err-write_span_line.ensures.1 in
     rw (p.1, p.2) (memory_is_error c.args.regex.now.meta.options (string_bytes c.args.regex.now.meta.pattern) c.args.text.now)
 
 pub returns-clause-lines : goal.returns-clause-lines

@@ -1,7 +1,7 @@
 use Rattle.std.proofs.Common.{◌<◌, ℕ, List, sym, ap, subst, arith, get_or, length, IsCharBoundary}
 use Rattle.fancy_regex_table.specs.Tables.{IsAsciiAt}
 use Rattle.fancy_regex_table.proofs.TableLemmas.{ascii_here, later_at}
-use Rattle.fancy_regex_table.proofs.table.Table.run.Goals as goal
+use Rattle.fancy_regex_table.proofs.table.Table.run_from.Goals as goal
 
 pub chars-init : goal.chars-init
 chars-init c = record {

@@ -2,7 +2,7 @@ use Rattle.std.proofs.Common.{◌≡◌, ◌-◌}
 use Rattle.fancy_regex_states.specs.declared.rules.Rules.{Rules}
 use Rattle.fancy_regex_table.specs.Cells.{Parts, Search}
 use Rattle.fancy_regex_table.specs.Tables.{IsTable, IsSearchOf, IsRunTo, Stands}
-use Rattle.fancy_regex_table.proofs.table.Table.run.Given as goal
+use Rattle.fancy_regex_table.proofs.table.Table.run_from.Given as goal
 
 abbrev pub invariant-chars : goal.invariant-chars
 invariant-chars l = record {
