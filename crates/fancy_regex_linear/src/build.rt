@@ -432,7 +432,8 @@ impl Translator {
         ensures sound { IfOk result (λ translated. IsSound (shape translated.node)) }
         ensures refused { IfErr result (IsClassCause self.old.unicode (classes (tree_of child.now))) }
         ensures shape { IfOk result (λ translated. IsRegular (tree_of child.now) → (groups : List Tree) → shape translated.node
-            ≡ re.ask negated back (re_of self.old.unicode groups self.old.next_group (length self.old.matchers.items) (tree_of child.now))) }
+            ≡ re.ask negated back (re_of self.old.unicode groups self.old.next_group
+            (length self.old.matchers.items) (tree_of child.now))) }
     {
         let translated = self.translated(child)?;
         Ok(Translated {
