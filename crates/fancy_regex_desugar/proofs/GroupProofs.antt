@@ -13,7 +13,7 @@ use Rattle.fancy_regex_meaning.specs.Sizes.{size, target}
 use Rattle.fancy_regex_meaning.specs.Ways.{is_at_call_limit, max_open_calls}
 use Rattle.fancy_regex_desugar.specs.CorePatterns.{any, literal, class, CorePattern, nothing, read, general_newline, check, continue, keep_out, fail, cat, group, back, delegate, tail, backref, exists, absent}
 use Rattle.fancy_regex_desugar.specs.Delegates.{searched, is_delegated, begins_tail}
-use Rattle.fancy_regex_desugar.specs.Unfolded.{repeated, Written, pat_for, cat_all, alt_all, body_of, look, node, branches, written, written_all, written_call, written_plain, written_tail, written_whole, core_pattern_of}
+use Rattle.fancy_regex_desugar.specs.Unfolded.{repeated, Written, pat_for, cat_all, alt_all, body_of, look, node, branches, written, written_all, written_call, written_plain, written_tail, written_whole, unfolded, core_pattern_of}
 use Rattle.fancy_regex_desugar.specs.Shapes.{HasGroups}
 use Rattle.fancy_regex_desugar.specs.DesugarLaws.{PatternGroupsAreInRange}
 
@@ -268,3 +268,18 @@ pattern_groups_are_in_range t = (
       (hold_calls 0 (length (bodies t)) (bodies t) (room_from_zero t) (max_open_calls (bodies t)) []) 0 t
       (omega arith) (omega (arith, groups_are_counted t))).is,
 )
+
+-- The same of the body of a group.
+pub body_groups_from_one : (t : Tree) (m : ℕ) (opened : List ℕ) (k : ℕ) (body : Tree) → target (t ∷ bodies t) k ≡ Some body →
+    HasGroups 1 (length (t ∷ bodies t)) (unfolded (t ∷ bodies t) m opened (k + 1) body)
+body_groups_from_one t m opened k body e =
+    let gs = t ∷ bodies t in
+    let room = room_from_one t k body e in
+    (hold 1 (length gs) gs (written_call gs m opened) (hold_calls 1 (length gs) gs (room_from_one t) m opened) (k + 1) body room.0 room.1).front
+
+pub body_groups_from_zero : (t : Tree) (m : ℕ) (opened : List ℕ) (k : ℕ) (body : Tree) → target (bodies t) k ≡ Some body →
+    HasGroups 0 (length (bodies t)) (unfolded (bodies t) m opened (k + 1) body)
+body_groups_from_zero t m opened k body e =
+    let gs = bodies t in
+    let room = room_from_zero t k body e in
+    (hold 0 (length gs) gs (written_call gs m opened) (hold_calls 0 (length gs) gs (room_from_zero t) m opened) (k + 1) body room.0 room.1).front

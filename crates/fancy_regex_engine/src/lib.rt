@@ -17,7 +17,8 @@ pub use fancy_regex_machine::{
     run_in, run_spans, run_spans_in, run_spans_within, run_within,
 };
 pub use fancy_regex_program::{
-    AbsentRepeater, CaptureGroupRange, Delegate, Insn, Repeat, RepeatEpsilon, is_valid_program,
+    AbsentRepeater, Callee, CaptureGroupRange, Delegate, Insn, Repeat, RepeatEpsilon,
+    is_valid_program,
 };
 
 /// Wherever both succeed, a run of a pattern's program and an `Easy` search of the same pattern return the same spans of all

@@ -1,3 +1,4 @@
+mod CallLemmas
 pub mod RepeatLemmas
 pub mod AdvanceLemmas
 pub mod AnswerLemmas

@@ -8,6 +8,7 @@ mod absent;
 mod advance;
 mod ahead;
 mod alternative_loops;
+mod calls;
 mod char_loops;
 mod error;
 mod failing_places;

@@ -10,3 +10,10 @@ pub mod SpanPlaces
 pub mod ValidCode
 pub mod ValidSpans
 pub mod Sending
+pub mod WrittenParts
+pub mod CodeParts
+pub mod SameCode
+pub mod Resolved
+pub mod Stretches
+pub mod KeptValid
+pub mod PlacesApart

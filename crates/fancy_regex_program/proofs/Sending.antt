@@ -14,6 +14,7 @@ use Rattle.fancy_regex_linear.proofs.easy.Easy.TheSendSync as easy
 use Rattle.fancy_regex_program.specs.contracts.delegate.Delegate as delegate
 use Rattle.fancy_regex_program.specs.contracts.insn.Insn as insn
 use Rattle.fancy_regex_program.proofs.insn.AbsentRepeater.TheSendSync as absent
+use Rattle.fancy_regex_program.proofs.insn.Callee.TheSendSync as callee
 use Rattle.fancy_regex_program.proofs.insn.Repeat.TheSendSync as repeat
 use Rattle.fancy_regex_program.proofs.insn.RepeatEpsilon.TheSendSync as unbounded
 
@@ -43,6 +44,8 @@ insn_send =
       repeat.the_send,
       unbounded.the_send,
       absent.the_send,
+      callee.the_send,
+      callee.the_sync,
       crosses,
       sendable,
     ) depth 60 fits 20000

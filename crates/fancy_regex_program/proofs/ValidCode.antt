@@ -1,5 +1,5 @@
 -- The program of a pattern that can be written is valid.
-use Rattle.std.proofs.Common.{◌≡◌, ℕ, zero, suc, ◌+◌, ◌-◌, ◌*◌, ◌<◌, ◌≤◌, Bool, true, false, cond, ◌&&◌, List, [], ◌∷◌, ◌++◌, length, Some, None, refl, sym, ap, ◌∙◌, subst, arith, append_assoc, length-append}
+use Rattle.std.proofs.Common.{◌≡◌, ℕ, zero, suc, ◌+◌, ◌-◌, ◌*◌, ◌<◌, ◌≤◌, Bool, true, false, cond, ◌&&◌, List, [], ◌∷◌, ◌++◌, length, Option, Some, None, refl, sym, ap, ◌∙◌, subst, arith, append_assoc, length-append}
 use Rattle.std.specs.Prelude.{nat_le, slice_get}
 use Rattle.std.proofs.lemmas.Bool.{true≢false}
 use Rattle.std.proofs.lemmas.Bool.Decides.{nat_tests}
@@ -7,24 +7,25 @@ use Rattle.std.proofs.lemmas.Option.{none-some, same_Some}
 use Rattle.fancy_regex_tree.specs.Tree.{Text, Tree}
 use Rattle.fancy_regex_desugar.specs.CorePatterns.{any, literal, class, CorePattern, nothing, read, general_newline, check, continue, keep_out, fail, cat, alt, group, ahead, never, back, atomic, delegate, tail, repeat, backref, exists, conditional, absent, called}
 use Rattle.fancy_regex_program.specs.Ops as op
-use Rattle.fancy_regex_program.specs.Ops.{Op}
-use Rattle.fancy_regex_program.specs.Code.{Code, slots_in, waits, is_whole_literal, flushed, none, one, after_text, closed, row_code, alt_code, group_code, ahead_code, never_code, atomic_code, tail_code, repeat_code, is_uncounted, split_by, loop_entry, loop_head, loop_code, conditional_code, absent_code, code_of, opening, program_of, leaf_op}
+use Rattle.fancy_regex_program.specs.Ops.{Op, Place}
+use Rattle.fancy_regex_program.specs.Code.{Code, Layout, written_out, where_written, slots_in, slots_with, waits, waits_with, is_whole_literal, flushed, none, one, after_text, closed, row_code, alt_code, group_code, ahead_code, never_code, atomic_code, tail_code, repeat_code, is_uncounted, split_by, loop_entry, loop_head, loop_code, conditional_code, absent_code, call_code, code_of, code_with, opening, program_of, leaf_op}
 use Rattle.fancy_regex_program.specs.Machine.{unset}
 use Rattle.fancy_regex_program.specs.Reading.{always_reads}
 use Rattle.fancy_regex_program.specs.Shapes.{IsWritable}
-use Rattle.fancy_regex_program.specs.ValidPrograms.{HasSlots, CountsPastLeast, LeadsInside, IsValidOp, IsValidProgram, is_finish}
+use Rattle.fancy_regex_program.specs.ValidPrograms.{HasPlace, HasSlots, CountsPastLeast, LeadsInside, IsValidOp, AreValidOps, IsValidProgram, is_finish}
+use Rattle.fancy_regex_program.specs.Layouts.{main_code}
 
 -- in a program with so many operations and slots
 module _ (size slots : ℕ) where
   -- The operations are valid where the first one is at this index.
-  abbrev AreValid : ℕ → List Op → Type 0
+  abbrev pub AreValid : ℕ → List Op → Type 0
   AreValid pc [] = Unit {0}
   AreValid pc (o ∷ os) = IsValidOp size slots pc o × AreValid (pc + 1) os
 
-  moved : (os : List Op) (a b : ℕ) → a ≡ b → AreValid a os → AreValid b os
+  pub moved : (os : List Op) (a b : ℕ) → a ≡ b → AreValid a os → AreValid b os
   moved os a b e v = let P = λ (n : ℕ). AreValid n os in subst P e v
 
-  joined : (a b : List Op) (pc : ℕ) → AreValid pc a → AreValid (pc + length a) b → AreValid pc (a ++ b)
+  pub joined : (a b : List Op) (pc : ℕ) → AreValid pc a → AreValid (pc + length a) b → AreValid pc (a ++ b)
   joined [] b pc v w = moved b (pc + 0) pc (omega arith) w
   joined (o ∷ a) b pc v w =
       let e : pc + length (o ∷ a) ≡ pc + 1 + length a = omega arith in
@@ -42,7 +43,7 @@ module _ (size slots : ℕ) where
       subst P e (one_of os (first + 1) pc o v.1 is)
 
   -- an operation that leads to the next one and names no slot
-  plain : (pc : ℕ) (o : Op) → HasSlots slots o → CountsPastLeast o → LeadsInside size pc o → IsValidOp size slots pc o
+  pub plain : (pc : ℕ) (o : Op) → HasSlots slots o → CountsPastLeast o → LeadsInside size pc o → IsValidOp size slots pc o
   plain pc o has counts leads = record { slots_are = has; counts = counts; leads = leads }
 
   flushed_valid : (text : Text) (pc : ℕ) → pc + length (flushed text) < size → AreValid pc (flushed text)
@@ -50,8 +51,8 @@ module _ (size slots : ℕ) where
   flushed_valid (c ∷ cs) pc room = (plain pc (op.lit (c ∷ cs)) tt tt room, tt)
 
   -- The code is valid wherever it stands before another operation and its own slots are there.
-  record IsValidCode (code : Code) (own : ℕ) : Type 0 where
-    at : (pc slot : ℕ) → pc + length (code pc slot) < size → slot + own ≤ slots → AreValid pc (code pc slot)
+  pub record IsValidCode (code : Code) (own : ℕ) : Type 0 where
+    pub at : (pc slot : ℕ) → pc + length (code pc slot) < size → slot + own ≤ slots → AreValid pc (code pc slot)
 
   none_valid : IsValidCode none 0
   none_valid = record { at = λ pc slot room fits. tt }
@@ -73,7 +74,7 @@ module _ (size slots : ℕ) where
         joined f rest pc (flushed_valid text pc (omega (arith, l, room))) (v.at (pc + length f) slot (omega (arith, l, room)) fits);
   }
 
-  closed_valid : (code : Code) (own : ℕ) (text : Text) → IsValidCode code own → IsValidCode (closed code text) own
+  pub closed_valid : (code : Code) (own : ℕ) (text : Text) → IsValidCode code own → IsValidCode (closed code text) own
   closed_valid code own text v = record {
     at = λ pc slot room fits.
         let f = flushed text in
@@ -283,14 +284,32 @@ module _ (size slots : ℕ) where
         );
   }
 
-  -- over the members of classes, the foldings of characters, whether group 0 is the whole, and the numbers of the groups
-  module _ (has_member : Text → Bool → ℕ → Bool) (fold : ℕ → ℕ) (whole : Bool) (first end : ℕ) (ends : 2 * end ≤ slots) (start : whole ≡ true → 1 < slots) where
+  -- a call that stays, or what stands for it
+  call_valid : (o : Option Place) (code : Text → Code) (own : ℕ) (text : Text) → ((c : Place) → o ≡ Some c → HasPlace slots c × (c.start < size)) →
+      IsValidCode (code text) own → IsValidCode (call_code o code text) (where_written o own)
+  call_valid None code own text there v = v
+  call_valid (Some c) code own text there v =
+      let place = there c refl in
+      after_text_valid text (one (op.call c)) 0 (one_valid (op.call c) place.0 tt (λ pc room. (room, place.1)))
+
+  -- each group whose calls stay has a place in the program
+  abbrev pub HasPlaces : Layout → Type 0
+  HasPlaces layout = (k : ℕ) (c : Place) → layout k ≡ Some c → HasPlace slots c × (c.start < size)
+
+  -- over the members of classes, the foldings of characters, whether group 0 is the whole, the places, and the numbers of the groups
+  module _ (has_member : Text → Bool → ℕ → Bool) (fold : ℕ → ℕ) (whole : Bool) (layout : Layout) (places : HasPlaces layout) (first end : ℕ) (ends : 2 * end ≤ slots) (start : whole ≡ true → 1 < slots) where
     kept_valid : (b : Bool) → (b ≡ true → 1 < slots) → IsValidCode (λ pc slot. cond b (op.save 0 ∷ []) []) 0
     kept_valid true there = record { at = λ pc slot room fits. let two : 1 < slots = there refl in (plain pc (op.save 0) (omega arith) tt room, tt) }
     kept_valid false there = record { at = λ pc slot room fits. tt }
 
-    code_valid : (p : CorePattern) (text : Text) → IsWritable first end p → IsValidCode (code_of has_member fold whole p text) (slots_in p)
-    unfolding code_of
+    abbrev S : CorePattern → ℕ
+    S = slots_with layout
+
+    abbrev W : CorePattern → Text → Text
+    W = waits_with layout
+
+    pub code_valid : (p : CorePattern) (text : Text) → IsWritable first end p → IsValidCode (code_with has_member fold whole layout p text) (S p)
+    unfolding code_with
     code_valid nothing text w = none_valid
     code_valid (read (literal c false)) text w = waiting_valid (is_whole_literal text) text
     code_valid (read (literal c true)) text w = after_text_valid text _ 0 (one_valid (leaf_op has_member fold whole (literal c true)) tt tt (λ pc room. room))
@@ -301,28 +320,28 @@ module _ (size slots : ℕ) where
     code_valid continue text w = after_text_valid text _ 0 (one_valid op.continue tt tt (λ pc room. room))
     code_valid keep_out text w = after_text_valid text _ 0 (kept_valid whole start)
     code_valid fail text w = after_text_valid text _ 0 (one_valid op.fail tt tt (λ pc room. tt))
-    code_valid (cat a b) text w = row_valid _ _ (slots_in a) (slots_in b) (code_valid a text w.0) (code_valid b (waits a text) w.1)
-    code_valid (alt a b) text w = after_text_valid text _ (slots_in a + slots_in b)
-        (alt_valid _ _ (slots_in a) (slots_in b) (closed_valid _ (slots_in a) (waits a []) (code_valid a [] w.0)) (closed_valid _ (slots_in b) (waits b []) (code_valid b [] w.1)))
-    code_valid (group k a) text w = after_text_valid text _ (1 + slots_in a)
-        (group_valid k (slots_in a) _ (omega (arith, w.1)) (closed_valid _ (slots_in a) (waits a []) (code_valid a [] w.2)))
-    code_valid (ahead a) text w = after_text_valid text _ (1 + slots_in a) (ahead_valid (slots_in a) _ (closed_valid _ (slots_in a) (waits a []) (code_valid a [] w.1)))
-    code_valid (never a) text w = after_text_valid text _ (1 + slots_in a) (never_valid (slots_in a) _ (closed_valid _ (slots_in a) (waits a []) (code_valid a [] w)))
+    code_valid (cat a b) text w = row_valid _ _ (S a) (S b) (code_valid a text w.0) (code_valid b (W a text) w.1)
+    code_valid (alt a b) text w = after_text_valid text _ (S a + S b)
+        (alt_valid _ _ (S a) (S b) (closed_valid _ (S a) (W a []) (code_valid a [] w.0)) (closed_valid _ (S b) (W b []) (code_valid b [] w.1)))
+    code_valid (group k a) text w = after_text_valid text _ (1 + S a)
+        (group_valid k (S a) _ (omega (arith, w.1)) (closed_valid _ (S a) (W a []) (code_valid a [] w.2)))
+    code_valid (ahead a) text w = after_text_valid text _ (1 + S a) (ahead_valid (S a) _ (closed_valid _ (S a) (W a []) (code_valid a [] w.1)))
+    code_valid (never a) text w = after_text_valid text _ (1 + S a) (never_valid (S a) _ (closed_valid _ (S a) (W a []) (code_valid a [] w)))
     code_valid (back n) text w = after_text_valid text _ 0 (one_valid (op.go_back n) tt tt (λ pc room. room))
-    code_valid (atomic a) text w = after_text_valid text _ (1 + slots_in a) (atomic_valid (slots_in a) _ (closed_valid _ (slots_in a) (waits a []) (code_valid a [] w)))
+    code_valid (atomic a) text w = after_text_valid text _ (1 + S a) (atomic_valid (S a) _ (closed_valid _ (S a) (W a []) (code_valid a [] w)))
     code_valid (delegate t a) text w = after_text_valid text _ 0 (one_valid (op.delegate has_member fold t) tt tt (λ pc room. room))
-    code_valid (tail t a) text w = after_text_valid text _ (slots_in a) (tail_valid has_member fold t (slots_in a) _ (closed_valid _ (slots_in a) (waits a []) (code_valid a [] w)))
-    code_valid (repeat a lo None greedy) text w = after_text_valid text _ (2 + slots_in a)
-        (loop_valid lo greedy (slots_in a) _ w.0 (closed_valid _ (slots_in a) (waits a []) (code_valid a [] w.1)))
-    code_valid (repeat a lo (Some hi) greedy) text w = after_text_valid text _ (1 + slots_in a)
-        (repeat_valid lo hi greedy (slots_in a) _ (closed_valid _ (slots_in a) (waits a []) (code_valid a [] w.1)))
+    code_valid (tail t a) text w = after_text_valid text _ (S a) (tail_valid has_member fold t (S a) _ (closed_valid _ (S a) (W a []) (code_valid a [] w)))
+    code_valid (repeat a lo None greedy) text w = after_text_valid text _ (2 + S a)
+        (loop_valid lo greedy (S a) _ w.0 (closed_valid _ (S a) (W a []) (code_valid a [] w.1)))
+    code_valid (repeat a lo (Some hi) greedy) text w = after_text_valid text _ (1 + S a)
+        (repeat_valid lo hi greedy (S a) _ (closed_valid _ (S a) (W a []) (code_valid a [] w.1)))
     code_valid (backref k casei) text w = after_text_valid text _ 0 (one_valid (op.backref (2 * k) casei) (omega (arith, w.1)) tt (λ pc room. room))
     code_valid (exists k) text w = after_text_valid text _ 0 (one_valid (op.exists (2 * k)) (omega (arith, w.1)) tt (λ pc room. room))
-    code_valid (conditional c a b) text w = after_text_valid text _ (1 + (slots_in c + (slots_in a + slots_in b)))
-        (conditional_valid _ _ _ (slots_in c) (slots_in a) (slots_in b) (closed_valid _ (slots_in c) (waits c []) (code_valid c [] w.0))
-        (closed_valid _ (slots_in a) (waits a []) (code_valid a [] w.1)) (closed_valid _ (slots_in b) (waits b []) (code_valid b [] w.2)))
-    code_valid (absent a) text w = after_text_valid text _ (2 + slots_in a) (absent_valid (slots_in a) _ (closed_valid _ (slots_in a) (waits a []) (code_valid a [] w.1)))
-    code_valid (called k a) text w = code_valid a text w
+    code_valid (conditional c a b) text w = after_text_valid text _ (1 + (S c + (S a + S b)))
+        (conditional_valid _ _ _ (S c) (S a) (S b) (closed_valid _ (S c) (W c []) (code_valid c [] w.0))
+        (closed_valid _ (S a) (W a []) (code_valid a [] w.1)) (closed_valid _ (S b) (W b []) (code_valid b [] w.2)))
+    code_valid (absent a) text w = after_text_valid text _ (2 + S a) (absent_valid (S a) _ (closed_valid _ (S a) (W a []) (code_valid a [] w.1)))
+    code_valid (called k a) text w = call_valid (layout k) (code_with has_member fold whole layout a) (S a) text (places k) (code_valid a text w)
 
     opening_valid : (anchored : Bool) → 1 + length (opening has_member fold whole anchored) ≤ size → AreValid 0 (opening has_member fold whole anchored)
     opening_valid true room = (kept_valid whole start).at 0 0 (omega (arith, room)) (omega arith)
@@ -336,40 +355,51 @@ module _ (size slots : ℕ) where
     closing_valid true there pc room = let r : pc + 2 ≤ size = room in (plain pc (op.save 1) (there refl) tt (omega arith), (plain (pc + 1) op.finish tt tt tt, tt))
     closing_valid false there pc room = (plain pc op.finish tt tt tt, tt)
 
+    -- the operations of a main program
+    pub main_valid : (anchored : Bool) (p : CorePattern) → IsWritable first end p → 2 * end + S p ≤ slots → length (main_code has_member fold whole layout anchored end p) ≤ size →
+        AreValid 0 (main_code has_member fold whole layout anchored end p)
+    main_valid anchored p writable fits room =
+        let o = opening has_member fold whole anchored in
+        let body = closed (code_with has_member fold whole layout p []) (W p []) (length o) (2 * end) in
+        let pre : List Op = cond whole (op.save 1 ∷ []) [] in
+        let last : List Op = pre ++ op.finish ∷ [] in
+        let l1 : length (o ++ (body ++ last)) ≡ length o + length (body ++ last) = length-append o (body ++ last) in
+        let l2 : length (body ++ last) ≡ length body + length last = length-append body last in
+        let l3 : length last ≡ length pre + 1 = length-append pre (op.finish ∷ []) in
+        let r : length (o ++ (body ++ last)) ≤ size = room in
+        let inside = closed_valid (code_with has_member fold whole layout p []) (S p) (W p []) (code_valid p [] writable) in
+        let ended = closing_valid whole start (length o + length body) (omega arith) in
+        let rest = joined body last (length o) (inside.at (length o) (2 * end) (omega arith) fits) ended in
+        joined o (body ++ last) 0 (opening_valid anchored (omega arith)) (moved (body ++ last) (length o) (0 + length o) (omega arith) rest)
+
 finish_at : (a : List Op) → slice_get (a ++ op.finish ∷ []) (length a) ≡ Some op.finish
 finish_at [] = refl
 finish_at (o ∷ a) = finish_at a
 
-finish_last : (a code : List Op) → code ≡ a ++ op.finish ∷ [] → is_finish (slice_get code (length code - 1)) ≡ true
+pub finish_last : (a code : List Op) → code ≡ a ++ op.finish ∷ [] → is_finish (slice_get code (length code - 1)) ≡ true
 finish_last a code is =
     let l : length (a ++ op.finish ∷ []) ≡ length a + 1 = length-append a (op.finish ∷ []) in
     let l2 : length code ≡ length (a ++ op.finish ∷ []) = ap length is in
     let at : length code - 1 ≡ length a = omega arith in
     ap is_finish (ap (slice_get code) at ∙ ap (λ (os : List Op). slice_get os (length a)) is ∙ finish_at a)
 
+-- of a whole program
+pub are_valid_ops : (slots : ℕ) (code : List Op) → AreValid (length code) slots 0 code → AreValidOps code slots
+are_valid_ops slots code all pc x is = let P = λ (n : ℕ). IsValidOp (length code) slots n x in subst P (omega arith) (one_of (length code) slots code 0 pc x all is)
+
 pub program_is_valid : (has_member : Text → Bool → ℕ → Bool) (fold : ℕ → ℕ) (whole anchored : Bool) (first groups : ℕ) (p : CorePattern)
     → (whole ≡ true → 0 < groups) → IsWritable first groups p → IsValidProgram (program_of has_member fold whole anchored groups p) (2 * groups + slots_in p)
-unfolding program_of
+unfolding program_of code_of
 program_is_valid has_member fold whole anchored first groups p starts writable =
     let slots = 2 * groups + slots_in p in
+    let code : List Op = main_code has_member fold whole written_out anchored groups p in
+    let size = length code in
     let o = opening has_member fold whole anchored in
     let body = closed (code_of has_member fold whole p []) (waits p []) (length o) (2 * groups) in
     let pre : List Op = cond whole (op.save 1 ∷ []) [] in
-    let end : List Op = pre ++ op.finish ∷ [] in
-    let code : List Op = o ++ (body ++ end) in
-    let size = length code in
-    let l1 : size ≡ length o + length (body ++ end) = length-append o (body ++ end) in
-    let l2 : length (body ++ end) ≡ length body + length end = length-append body end in
-    let l3 : length end ≡ length pre + 1 = length-append pre (op.finish ∷ []) in
     let start : whole ≡ true → 1 < slots = λ h. let some : 0 < groups = starts h in omega arith in
-    let enough : 2 * groups ≤ slots = omega arith in
-    let inside = closed_valid size slots (code_of has_member fold whole p []) (slots_in p) (waits p [])
-    (code_valid size slots has_member fold whole first groups enough start p [] writable) in
-    let ended = closing_valid size slots has_member fold whole first groups enough start whole start (length o + length body) (omega arith) in
-    let rest = joined size slots body end (length o) (inside.at (length o) (2 * groups) (omega arith) (omega arith)) ended in
-    let all = joined size slots o (body ++ end) 0 (opening_valid size slots has_member fold whole first groups enough start anchored (omega arith))
-    (moved size slots (body ++ end) (length o) (0 + length o) (omega arith) rest) in
+    let all = main_valid size slots has_member fold whole written_out (λ k c e. absurd (none-some c e)) first groups (omega arith) start anchored p writable (omega arith) (omega arith) in
     record {
       last = finish_last (o ++ (body ++ pre)) code (simp append_assoc);
-      ops = λ pc x is. let P = λ (n : ℕ). IsValidOp size slots n x in subst P (omega arith) (one_of size slots code 0 pc x all is);
+      ops = are_valid_ops slots code all;
     }

@@ -1,26 +1,43 @@
 -- The program of a pattern.
-use Rattle.std.specs.Prelude.{ℕ, ◌+◌, ◌*◌, nat_le, Bool, true, false, not, ◌&&◌, List, [], ◌∷◌, ◌++◌, length, Some, None, ◌==◌, if◌then◌else◌}
+use Rattle.std.specs.Prelude.{ℕ, ◌+◌, ◌*◌, nat_le, Bool, true, false, not, ◌&&◌, List, [], ◌∷◌, ◌++◌, length, Option, Some, None, ◌==◌, if◌then◌else◌}
 use Rattle.fancy_regex_tree.specs.Tree.{Text}
 use Rattle.fancy_regex_desugar.specs.CorePatterns.{CharacterTest, any, literal, class, CorePattern, nothing, read, general_newline, check, continue, keep_out, fail, cat, alt, group, ahead, never, back, atomic, delegate, tail, repeat, backref, exists, conditional, absent, called}
 use Rattle.fancy_regex_program.specs.Ops as op
-use Rattle.fancy_regex_program.specs.Ops.{Op, among_scalars}
+use Rattle.fancy_regex_program.specs.Ops.{Op, Place, among_scalars}
 use Rattle.fancy_regex_program.specs.Reading.{always_reads}
 
+-- Where the bodies of the groups are whose calls stay calls; the other calls are written out.
+abbrev pub Layout : Type 0
+Layout = ℕ → Option Place
+
+-- every call is written out
+abbrev pub written_out : Layout
+written_out k = None
+
+-- the number where the call is written out, and else none
+abbrev pub where_written : Option Place → ℕ → ℕ
+where_written None n = n
+where_written (Some c) n = 0
+
 -- how many slots of its own a pattern has
+abbrev pub slots_with : Layout → CorePattern → ℕ
+slots_with layout (cat a b) = slots_with layout a + slots_with layout b
+slots_with layout (alt a b) = slots_with layout a + slots_with layout b
+slots_with layout (group k a) = 1 + slots_with layout a
+slots_with layout (ahead a) = 1 + slots_with layout a
+slots_with layout (never a) = 1 + slots_with layout a
+slots_with layout (atomic a) = 1 + slots_with layout a
+slots_with layout (tail t a) = slots_with layout a
+slots_with layout (repeat a lo None greedy) = 2 + slots_with layout a
+slots_with layout (repeat a lo (Some hi) greedy) = 1 + slots_with layout a
+slots_with layout (conditional c a b) = 1 + (slots_with layout c + (slots_with layout a + slots_with layout b))
+slots_with layout (absent a) = 2 + slots_with layout a
+slots_with layout (called k a) = where_written (layout k) (slots_with layout a)
+slots_with layout _ = 0
+
+-- the same with every call written out
 abbrev pub slots_in : CorePattern → ℕ
-slots_in (cat a b) = slots_in a + slots_in b
-slots_in (alt a b) = slots_in a + slots_in b
-slots_in (group k a) = 1 + slots_in a
-slots_in (ahead a) = 1 + slots_in a
-slots_in (never a) = 1 + slots_in a
-slots_in (atomic a) = 1 + slots_in a
-slots_in (tail t a) = slots_in a
-slots_in (repeat a lo None greedy) = 2 + slots_in a
-slots_in (repeat a lo (Some hi) greedy) = 1 + slots_in a
-slots_in (conditional c a b) = 1 + (slots_in c + (slots_in a + slots_in b))
-slots_in (absent a) = 2 + slots_in a
-slots_in (called k a) = slots_in a
-slots_in _ = 0
+slots_in = slots_with written_out
 
 -- the most characters of a literal
 abbrev pub most_characters : ℕ
@@ -34,14 +51,23 @@ is_whole_literal text = nat_le most_characters (length text)
 abbrev pub still_waits : Text → Text
 still_waits text = if is_whole_literal text then [] else text
 
+-- what waits after a call
+abbrev pub waits_at_call : Option Place → Text → Text
+waits_at_call None text = text
+waits_at_call (Some c) text = []
+
 -- Literals that stand side by side are one text, so a literal waits until something else comes, or until the text has as many
 -- characters as a literal may have: what waits after a pattern, where that text waited before it.
+abbrev pub waits_with : Layout → CorePattern → Text → Text
+waits_with layout nothing text = text
+waits_with layout (read (literal c false)) text = still_waits text ++ c ∷ []
+waits_with layout (cat a b) text = waits_with layout b (waits_with layout a text)
+waits_with layout (called k a) text = waits_at_call (layout k) (waits_with layout a text)
+waits_with layout _ text = []
+
+-- the same with every call written out
 abbrev pub waits : CorePattern → Text → Text
-waits nothing text = text
-waits (read (literal c false)) text = still_waits text ++ c ∷ []
-waits (cat a b) text = waits b (waits a text)
-waits (called k a) text = waits a text
-waits _ text = []
+waits = waits_with written_out
 
 -- the text that waited
 abbrev pub flushed : Text → List Op
@@ -150,6 +176,11 @@ absent_code body pc slot =
     op.absent_begin slot (slot + 1) ∷ op.absent_scan (pc + 3 + length inside) (slot + 1)
     ∷ (inside ++ op.absent_limit (slot + 1) ∷ op.absent_end slot (slot + 1) ∷ [])
 
+-- a call that stays, or what stands for it
+abbrev pub call_code : Option Place → (Text → Code) → Text → Code
+call_code None code text = code text
+call_code (Some c) code text = after_text text (one (op.call c))
+
 -- over the members of classes, the foldings of characters, and whether group 0 is the whole
 module _ (has_member : Text → Bool → ℕ → Bool) (fold : ℕ → ℕ) (whole : Bool) where
   abbrev pub leaf_op : CharacterTest → Op
@@ -158,35 +189,40 @@ module _ (has_member : Text → Bool → ℕ → Bool) (fold : ℕ → ℕ) (who
   leaf_op (class text casei) = op.test (among_scalars (has_member text casei))
 
   -- The program of a pattern, which begins at that operation and with that slot; the text waits before it.
+  unfoldable pub code_with : Layout → CorePattern → Text → ℕ → ℕ → List Op
+  code_with layout nothing text = none
+  code_with layout (read (literal c false)) text = literal_code text
+  code_with layout (cat a b) text = row_code (code_with layout a text) (code_with layout b (waits_with layout a text)) (slots_with layout a)
+  code_with layout (read (literal c true)) text = after_text text (one (leaf_op (literal c true)))
+  code_with layout (read (any newline crlf)) text = after_text text (one (leaf_op (any newline crlf)))
+  code_with layout (read (class name casei)) text = after_text text (one (leaf_op (class name casei)))
+  code_with layout (general_newline unicode) text = after_text text (one (op.general_newline unicode))
+  code_with layout (check a) text = after_text text (one (op.assertion a))
+  code_with layout continue text = after_text text (one op.continue)
+  code_with layout keep_out text = after_text text (λ pc slot. if whole then op.save 0 ∷ [] else [])
+  code_with layout fail text = after_text text (one op.fail)
+  code_with layout (alt a b) text = after_text text (alt_code (closed (code_with layout a []) (waits_with layout a [])) (closed (code_with layout b []) (waits_with layout b [])) (slots_with layout a))
+  code_with layout (group k a) text = after_text text (group_code k (closed (code_with layout a []) (waits_with layout a [])))
+  code_with layout (ahead a) text = after_text text (ahead_code (closed (code_with layout a []) (waits_with layout a [])))
+  code_with layout (never a) text = after_text text (never_code (closed (code_with layout a []) (waits_with layout a [])))
+  code_with layout (back n) text = after_text text (one (op.go_back n))
+  code_with layout (atomic a) text = after_text text (atomic_code (closed (code_with layout a []) (waits_with layout a [])))
+  code_with layout (delegate t a) text = after_text text (one (op.delegate has_member fold t))
+  code_with layout (tail t a) text = after_text text (tail_code (op.tail has_member fold t) (closed (code_with layout a []) (waits_with layout a [])))
+  code_with layout (repeat a lo None greedy) text = after_text text (loop_code lo greedy (closed (code_with layout a []) (waits_with layout a [])))
+  code_with layout (repeat a lo (Some hi) greedy) text = after_text text (repeat_code lo hi greedy (closed (code_with layout a []) (waits_with layout a [])))
+  code_with layout (backref k casei) text = after_text text (one (op.backref (2 * k) casei))
+  code_with layout (exists k) text = after_text text (one (op.exists (2 * k)))
+  code_with layout (conditional c a b) text = after_text text
+      (conditional_code (closed (code_with layout c []) (waits_with layout c [])) (closed (code_with layout a []) (waits_with layout a [])) (closed (code_with layout b []) (waits_with layout b []))
+      (slots_with layout c) (slots_with layout a))
+  code_with layout (absent a) text = after_text text (absent_code (closed (code_with layout a []) (waits_with layout a [])))
+  code_with layout (called k a) text = call_code (layout k) (code_with layout a) text
+
+  -- the same with every call written out
   unfoldable pub code_of : CorePattern → Text → ℕ → ℕ → List Op
-  code_of nothing text = none
-  code_of (read (literal c false)) text = literal_code text
-  code_of (cat a b) text = row_code (code_of a text) (code_of b (waits a text)) (slots_in a)
-  code_of (read (literal c true)) text = after_text text (one (leaf_op (literal c true)))
-  code_of (read (any newline crlf)) text = after_text text (one (leaf_op (any newline crlf)))
-  code_of (read (class name casei)) text = after_text text (one (leaf_op (class name casei)))
-  code_of (general_newline unicode) text = after_text text (one (op.general_newline unicode))
-  code_of (check a) text = after_text text (one (op.assertion a))
-  code_of continue text = after_text text (one op.continue)
-  code_of keep_out text = after_text text (λ pc slot. if whole then op.save 0 ∷ [] else [])
-  code_of fail text = after_text text (one op.fail)
-  code_of (alt a b) text = after_text text (alt_code (closed (code_of a []) (waits a [])) (closed (code_of b []) (waits b [])) (slots_in a))
-  code_of (group k a) text = after_text text (group_code k (closed (code_of a []) (waits a [])))
-  code_of (ahead a) text = after_text text (ahead_code (closed (code_of a []) (waits a [])))
-  code_of (never a) text = after_text text (never_code (closed (code_of a []) (waits a [])))
-  code_of (back n) text = after_text text (one (op.go_back n))
-  code_of (atomic a) text = after_text text (atomic_code (closed (code_of a []) (waits a [])))
-  code_of (delegate t a) text = after_text text (one (op.delegate has_member fold t))
-  code_of (tail t a) text = after_text text (tail_code (op.tail has_member fold t) (closed (code_of a []) (waits a [])))
-  code_of (repeat a lo None greedy) text = after_text text (loop_code lo greedy (closed (code_of a []) (waits a [])))
-  code_of (repeat a lo (Some hi) greedy) text = after_text text (repeat_code lo hi greedy (closed (code_of a []) (waits a [])))
-  code_of (backref k casei) text = after_text text (one (op.backref (2 * k) casei))
-  code_of (exists k) text = after_text text (one (op.exists (2 * k)))
-  code_of (conditional c a b) text = after_text text
-      (conditional_code (closed (code_of c []) (waits c [])) (closed (code_of a []) (waits a [])) (closed (code_of b []) (waits b []))
-      (slots_in c) (slots_in a))
-  code_of (absent a) text = after_text text (absent_code (closed (code_of a []) (waits a [])))
-  code_of (called k a) text = code_of a text
+  unfolding code_with
+  code_of = code_with written_out
 
   -- The program of a whole pattern: it tries each start, unless it is anchored, and the slots of group 0 say where it
   -- starts and ends.

@@ -2,6 +2,8 @@ pub mod Ops
 pub mod Machine
 pub mod Reading
 pub mod Code
+pub mod Layouts
+pub mod Assembled
 pub mod ValidPrograms
 pub mod SlotLayout
 pub mod Shapes

@@ -9,8 +9,8 @@ use std::sync::Arc;
 const _: () = prove!(size_of::<Insn>() <= 24);
 
 /// One instruction of a program, of at most 24 bytes: larger operands are boxed or shared. Jump targets are indices of
-/// instructions. Slots are numbered from 0; each holds a byte offset, a count, a height of the backtrack stack, or nothing. The
-/// slots 2k and 2k + 1 are the start and the end of group k.
+/// instructions. Slots are numbered from 0; each holds a byte offset, a count, a height of the backtrack stack, the index of an
+/// instruction, or nothing. The slots 2k and 2k + 1 are the start and the end of group k.
 #[derive(Clone, Debug, Drop)]
 pub enum Insn {
     /// The whole pattern has matched.
@@ -96,6 +96,29 @@ pub enum Insn {
     },
     /// A step of an absent repeater.
     AbsentRepeater(Box<AbsentRepeater>),
+    /// Enters the body of a called group. Fails where as many calls of the group are open as may be.
+    Call(Arc<Callee>),
+    /// Comes back after the call of the group that was entered last.
+    Return(Arc<Callee>),
+}
+
+/// The body of a called group, and the slots that its calls use. The group's own slots are those of its innermost open call, and
+/// those of each call around it wait in a frame: a call writes the next instruction to the frame of its depth and, where the group
+/// is open already, copies the group's own slots to the rest of the frame; the return takes both back.
+#[derive(Clone, Copy, Debug, PartialEq, Eq)]
+pub struct Callee {
+    /// The first instruction of the body.
+    pub start: usize,
+    /// The slot that counts the open calls. Unset stands for none.
+    pub count: usize,
+    /// How many calls may be open.
+    pub most: usize,
+    /// The first slot of the frames. There is a frame for each call that may be open, of `own + 1` slots.
+    pub frames: usize,
+    /// The first of the group's own slots.
+    pub first: usize,
+    /// How many slots of its own the group has.
+    pub own: usize,
 }
 
 /// The operands of the head of a bounded repeat.

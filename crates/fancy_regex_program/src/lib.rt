@@ -15,7 +15,7 @@ mod starts;
 mod validity;
 
 pub use delegate::Delegate;
-pub use insn::{AbsentRepeater, Insn, Repeat, RepeatEpsilon};
+pub use insn::{AbsentRepeater, Callee, Insn, Repeat, RepeatEpsilon};
 pub use range::CaptureGroupRange;
 pub use reading::is_uncounted;
 pub use spans::{SpanCode, span_code};

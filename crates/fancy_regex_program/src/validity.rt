@@ -1,13 +1,14 @@
 //! The verifier of programs: whether each slot and each instruction that the instructions name is there.
 
-ghost use Rattle.std.specs.Prelude.{◌≡◌, ◌<◌, ◌-◌, true, length, slice_get, Some};
-ghost use Rattle.fancy_regex_program.specs.Ops.{op_of, ops_of, part_of};
-ghost use Rattle.fancy_regex_program.specs.ValidPrograms.{HasSlots, CountsPastLeast, LeadsInside, IsValidOp, AreValidOps, IsValidProgram, is_finish};
+ghost use Rattle.std.specs.Prelude.{◌≡◌, ◌<◌, ◌≤◌, ◌+◌, ◌-◌, ◌*◌, true, length, slice_get, Some};
+ghost use Rattle.fancy_regex_program.specs.Ops.{op_of, ops_of, part_of, place_of};
+ghost use Rattle.fancy_regex_program.specs.ValidPrograms.{HasSlots, HasPlace, CountsPastLeast, LeadsInside, IsValidOp, AreValidOps, IsValidProgram, is_finish};
 
-use crate::insn::{AbsentRepeater, Insn};
+use crate::insn::{AbsentRepeater, Callee, Insn};
 
 /// Whether the instructions are a valid program for runs with so many slots: each slot that one of them names is there, and so is
-/// each instruction that it leads to; each unbounded repeat can count past its least count; and the last instruction is `End`.
+/// each instruction that it leads to, but for a return, which leads to what a slot holds then; each unbounded repeat can count past
+/// its least count; and the last instruction is `End`.
 pub fn is_valid_program(body: &[Insn], slots: usize) -> bool
     ensures valid { result ≡ true → IsValidProgram (ops_of body.now) slots }
     ensures complete { IsValidProgram (ops_of body.now) slots → result ≡ true }
@@ -75,6 +76,7 @@ fn has_slots(insn: &Insn, slots: usize) -> bool
         }
         Insn::Backref { slot, casei: _ } => *slot < slots && *slot + 1 < slots,
         Insn::AbsentRepeater(part) => has_part_slots(**part, slots),
+        Insn::Call(callee) | Insn::Return(callee) => has_place(**callee, slots),
         Insn::End
         | Insn::Any
         | Insn::AnyNoNL
@@ -108,6 +110,35 @@ fn has_part_slots(part: AbsentRepeater, slots: usize) -> bool
     }
 }
 
+/// Whether the count of a called group, its own slots and its frames are among so many slots.
+fn has_place(callee: Callee, slots: usize) -> bool
+    ensures valid { result ≡ true → HasPlace slots (place_of callee) }
+    ensures complete { HasPlace slots (place_of callee) → result ≡ true }
+{
+    callee.count < slots
+        && callee.first <= slots
+        && callee.own <= slots - callee.first
+        && callee.frames <= slots
+        && has_frames(callee, slots - callee.frames)
+}
+
+/// Whether so many slots are enough for the frames of a called group.
+fn has_frames(callee: Callee, room: usize) -> bool
+    ensures valid { result ≡ true → callee.most * (callee.own + 1) ≤ room }
+    ensures complete { callee.most * (callee.own + 1) ≤ room → result ≡ true }
+{
+    if callee.most == 0 {
+        return true;
+    }
+    if callee.own >= room {
+        return false;
+    }
+    match callee.most.checked_mul(callee.own + 1) {
+        Some(needed) => needed <= room,
+        None => false,
+    }
+}
+
 /// Whether the instructions that the one at the index `pc` leads to are among so many.
 fn leads_inside(insn: &Insn, size: usize, pc: usize) -> bool
     requires { pc < size }
@@ -125,6 +156,8 @@ fn leads_inside(insn: &Insn, size: usize, pc: usize) -> bool
             has_next && repeat.next < size
         }
         Insn::AbsentRepeater(part) => part_leads_inside(**part, size, pc),
+        Insn::Return(_) => true,
+        Insn::Call(callee) => has_next && callee.start < size,
         Insn::Any
         | Insn::AnyNoNL
         | Insn::AnyNoCRLF

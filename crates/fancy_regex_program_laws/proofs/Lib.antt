@@ -11,8 +11,16 @@ mod Emitted
 mod Trail
 mod AbsentWays
 mod WaysOf
+mod OnwardEndings
 mod TakesSome
 mod UncountedLoops
 mod ReadingCode
 mod StartByStart
+mod SearchEndings
 mod WholeProgram
+mod CallSlots
+mod CallSteps
+mod OpenCalls
+mod KeptPrograms
+mod LongerRuns
+mod LayoutsAlike

@@ -8,8 +8,8 @@ use Rattle.std.proofs.lemmas.Option.{none-some, same_Some, slice_get_past}
 use Rattle.fancy_regex_tree.specs.Tree.{Text}
 use Rattle.fancy_regex_desugar.specs.CorePatterns.{CorePattern, nothing, read, general_newline, check, continue, keep_out, fail, cat, alt, group, ahead, never, back, atomic, delegate, tail, repeat, backref, exists, conditional, absent, called}
 use Rattle.fancy_regex_program.specs.Ops as op
-use Rattle.fancy_regex_program.specs.Ops.{Op}
-use Rattle.fancy_regex_program.specs.Code.{Code, waits, flushed, slots_in, closed, is_uncounted, code_of}
+use Rattle.fancy_regex_program.specs.Ops.{Op, Place}
+use Rattle.fancy_regex_program.specs.Code.{Layout, Code, waits_at_call, waits_with, flushed, slots_with, closed, is_uncounted, call_code, code_with}
 use Rattle.fancy_regex_program.specs.Reading.{stays, passing_of, reads_past, reads_from, reading_depth, always_reads}
 use Rattle.fancy_regex_program_laws.proofs.Runs.{lt_is}
 use Rattle.fancy_regex_program_laws.proofs.ProgramParts.{HasAt, has_front, has_back, has_all}
@@ -79,16 +79,16 @@ module _ (first : ℕ) (ops : List Op) where
   reads_as : (at to : ℕ) → at ≡ to → Reads at → Reads to
   reads_as at to e h = subst Reads e h
 
-  module _ (stay : (at slot : ℕ) → slice_get ops at ≡ Some (op.restore slot) → ⊥) (has_member : Text → Bool → ℕ → Bool) (fold : ℕ → ℕ) (whole : Bool) where
+  module _ (stay : (at slot : ℕ) → slice_get ops at ≡ Some (op.restore slot) → ⊥) (has_member : Text → Bool → ℕ → Bool) (fold : ℕ → ℕ) (whole : Bool) (layout : Layout) where
     abbrev made : CorePattern → Text → ℕ → ℕ → List Op
-    made = code_of has_member fold whole
+    made = code_with has_member fold whole layout
 
     abbrev within : CorePattern → Code
-    within p = closed (made p []) (waits p [])
+    within p = closed (made p []) (waits_with layout p [])
 
     -- it takes a character, or each run after it reads one
     abbrev Passes : CorePattern → ℕ → ℕ → ℕ → Type 0
-    Passes p at pc slot = TakesSome p ⊎ ((waits p [] ≡ []) × Reads (at + length (made p [] pc slot)))
+    Passes p at pc slot = TakesSome p ⊎ ((waits_with layout p [] ≡ []) × Reads (at + length (made p [] pc slot)))
 
     abbrev PassesClosed : CorePattern → ℕ → ℕ → ℕ → Type 0
     PassesClosed p at pc slot = TakesSome p ⊎ Reads (at + length (within p pc slot))
@@ -96,10 +96,10 @@ module _ (first : ℕ) (ops : List Op) where
     shut : (p : CorePattern) (at pc slot : ℕ) → (HasAt ops at (made p [] pc slot) → Passes p at pc slot) → HasAt ops at (within p pc slot) → PassesClosed p at pc slot
     shut p at pc slot passes here =
         ⊎_elim (λ (t : TakesSome p). inl t)
-        (λ (h : (waits p [] ≡ []) × Reads (at + length (made p [] pc slot))).
+        (λ (h : (waits_with layout p [] ≡ []) × Reads (at + length (made p [] pc slot))).
         inr (reads_as (at + length (made p [] pc slot)) (at + length (within p pc slot))
-        (omega (arith, length-append (made p [] pc slot) (flushed (waits p [])), ap (λ t. length (flushed t)) h.0)) h.1))
-        (passes (has_front ops at (made p [] pc slot) (flushed (waits p [])) here))
+        (omega (arith, length-append (made p [] pc slot) (flushed (waits_with layout p [])), ap (λ t. length (flushed t)) h.0)) h.1))
+        (passes (has_front ops at (made p [] pc slot) (flushed (waits_with layout p [])) here))
 
     kept : (b : Bool) (at : ℕ) → HasAt ops at (cond b (op.save 0 ∷ []) []) → Reads at → Reads (at + length (cond b (op.save 0 ∷ []) []))
     kept true at here h = passes_on at (op.save 0) here.0 (λ from. refl) h
@@ -163,8 +163,13 @@ module _ (first : ℕ) (ops : List Op) where
         enters true le here2 = uncounted lo refl (le refl) here2.0 here2.1.0 (two here2.1.1)
         enters false le here2 = counted lo refl here2.0 here2.1.0 (two here2.1.1)
 
+    at_call : (o : Option Place) (a : CorePattern) (at pc slot : ℕ) → Reads at → (HasAt ops at (made a [] pc slot) → Passes a at pc slot) → HasAt ops at (call_code o (made a) [] pc slot) →
+        TakesSome a ⊎ ((waits_at_call o (waits_with layout a []) ≡ []) × Reads (at + length (call_code o (made a) [] pc slot)))
+    at_call None a at pc slot h inside here = inside here
+    at_call (Some c) a at pc slot h inside here = absurd (reads_not at (op.call c) here.0 (λ from. refl) h)
+
     through : (p : CorePattern) (at pc slot : ℕ) → pc ≡ first + at → HasAt ops at (made p [] pc slot) → Reads at → Passes p at pc slot
-    unfolding code_of
+    unfolding code_with
     through nothing at pc slot is here h = inr (refl, reads_as at (at + 0) (omega arith) h)
     through (read leaf) at pc slot is here h = inl tt
     through (general_newline unicode) at pc slot is here h = inl tt
@@ -174,21 +179,21 @@ module _ (first : ℕ) (ops : List Op) where
     through fail at pc slot is here h = inl tt
     through (cat a b) at pc slot is here h =
         let xs = made a [] pc slot in
-        let ys = made b (waits a []) (pc + length xs) (slot + slots_in a) in
+        let ys = made b (waits_with layout a []) (pc + length xs) (slot + slots_with layout a) in
         ⊎_elim (λ (t : TakesSome a). inl (inl t))
-        (λ (m : (waits a [] ≡ []) × Reads (at + length xs)).
-        let zs = made b [] (pc + length xs) (slot + slots_in a) in
-        let long : length ys ≡ length zs = ap (λ t. length (made b t (pc + length xs) (slot + slots_in a))) m.0 in
-        let at_b = subst (λ t. HasAt ops (at + length xs) (made b t (pc + length xs) (slot + slots_in a))) m.0 (has_back ops at (at + length xs) xs ys refl here) in
+        (λ (m : (waits_with layout a [] ≡ []) × Reads (at + length xs)).
+        let zs = made b [] (pc + length xs) (slot + slots_with layout a) in
+        let long : length ys ≡ length zs = ap (λ t. length (made b t (pc + length xs) (slot + slots_with layout a))) m.0 in
+        let at_b = subst (λ t. HasAt ops (at + length xs) (made b t (pc + length xs) (slot + slots_with layout a))) m.0 (has_back ops at (at + length xs) xs ys refl here) in
         ⊎_elim (λ (t : TakesSome b). inl (inr t))
-        (λ (n : (waits b [] ≡ []) × Reads (at + length xs + length zs)).
-        inr (ap (waits b) m.0 ∙ n.0, reads_as (at + length xs + length zs) (at + length (xs ++ ys)) (omega (arith, length-append xs ys, long)) n.1))
-        (through b (at + length xs) (pc + length xs) (slot + slots_in a) (omega arith) at_b m.1))
+        (λ (n : (waits_with layout b [] ≡ []) × Reads (at + length xs + length zs)).
+        inr (ap (waits_with layout b) m.0 ∙ n.0, reads_as (at + length xs + length zs) (at + length (xs ++ ys)) (omega (arith, length-append xs ys, long)) n.1))
+        (through b (at + length xs) (pc + length xs) (slot + slots_with layout a) (omega arith) at_b m.1))
         (through a at pc slot is (has_front ops at xs ys here) h)
     through (alt a b) at pc slot is here h =
         let p = pc + length (flushed []) in
         let xs = within a (p + 1) slot in
-        let ys = within b (p + 2 + length xs) (slot + slots_in a) in
+        let ys = within b (p + 2 + length xs) (slot + slots_with layout a) in
         let end = p + 2 + length xs + length ys in
         let total : at + 2 + length xs + length ys ≡ at + suc (length (xs ++ op.jump end ∷ ys)) = omega (arith, length-append xs (op.jump end ∷ ys)) in
         let both = on_both at (p + 1) (p + 2 + length xs) here.0 h in
@@ -196,9 +201,9 @@ module _ (first : ℕ) (ops : List Op) where
         let at_b : HasAt ops (at + 2 + length xs) ys = subst (λ q. HasAt ops q ys) (let same : at + 1 + length xs + 1 ≡ at + 2 + length xs = omega arith in same) jumps.1 in
         let one : PassesClosed a (at + 1) (p + 1) slot =
         shut a (at + 1) (p + 1) slot (λ f. through a (at + 1) (p + 1) slot (omega arith) f (reads_as (p + 1 - first) (at + 1) (omega arith) both.0)) (has_front ops (at + 1) xs _ here.1) in
-        let other : PassesClosed b (at + 2 + length xs) (p + 2 + length xs) (slot + slots_in a) =
-        shut b (at + 2 + length xs) (p + 2 + length xs) (slot + slots_in a)
-        (λ f. through b (at + 2 + length xs) (p + 2 + length xs) (slot + slots_in a) (omega arith) f (reads_as (p + 2 + length xs - first) (at + 2 + length xs) (omega arith) both.1)) at_b in
+        let other : PassesClosed b (at + 2 + length xs) (p + 2 + length xs) (slot + slots_with layout a) =
+        shut b (at + 2 + length xs) (p + 2 + length xs) (slot + slots_with layout a)
+        (λ f. through b (at + 2 + length xs) (p + 2 + length xs) (slot + slots_with layout a) (omega arith) f (reads_as (p + 2 + length xs - first) (at + 2 + length xs) (omega arith) both.1)) at_b in
         ⊎_elim
         (λ (t : TakesSome a).
         ⊎_elim (λ (u : TakesSome b). inl (t, u)) (λ (r : Reads (at + 2 + length xs + length ys)). inr (refl, reads_as (at + 2 + length xs + length ys) _ total r)) other)
@@ -265,8 +270,8 @@ module _ (first : ℕ) (ops : List Op) where
     through (conditional c a b) at pc slot is here h =
         let p = pc + length (flushed []) in
         let xs = within c (p + 2) (slot + 1) in
-        let ys = within a (p + 3 + length xs) (slot + 1 + slots_in c) in
-        let zs = within b (p + 4 + length xs + length ys) (slot + 1 + slots_in c + slots_in a) in
+        let ys = within a (p + 3 + length xs) (slot + 1 + slots_with layout c) in
+        let zs = within b (p + 4 + length xs + length ys) (slot + 1 + slots_with layout c + slots_with layout a) in
         let end = p + 4 + length xs + length ys + length zs in
         let total : at + 4 + length xs + length ys + length zs ≡ at + suc (suc (length (xs ++ op.end_atomic slot ∷ (ys ++ op.jump end ∷ zs)))) =
         omega (arith, length-append xs (op.end_atomic slot ∷ (ys ++ op.jump end ∷ zs)), length-append ys (op.jump end ∷ zs)) in
@@ -281,9 +286,9 @@ module _ (first : ℕ) (ops : List Op) where
         subst (λ q. HasAt ops q zs) (let same : at + 3 + length xs + length ys + 1 ≡ at + 4 + length xs + length ys = omega arith in same) jumps.1 in
         let tested : PassesClosed c (at + 2) (p + 2) (slot + 1) =
         shut c (at + 2) (p + 2) (slot + 1) (λ f. through c (at + 2) (p + 2) (slot + 1) (omega arith) f (reads_as (p + 2 - first) (at + 2) (omega arith) both.0)) (has_front ops (at + 2) xs _ at_c) in
-        let no : PassesClosed b (at + 4 + length xs + length ys) (p + 4 + length xs + length ys) (slot + 1 + slots_in c + slots_in a) =
-        shut b (at + 4 + length xs + length ys) (p + 4 + length xs + length ys) (slot + 1 + slots_in c + slots_in a)
-        (λ f. through b (at + 4 + length xs + length ys) (p + 4 + length xs + length ys) (slot + 1 + slots_in c + slots_in a) (omega arith) f
+        let no : PassesClosed b (at + 4 + length xs + length ys) (p + 4 + length xs + length ys) (slot + 1 + slots_with layout c + slots_with layout a) =
+        shut b (at + 4 + length xs + length ys) (p + 4 + length xs + length ys) (slot + 1 + slots_with layout c + slots_with layout a)
+        (λ f. through b (at + 4 + length xs + length ys) (p + 4 + length xs + length ys) (slot + 1 + slots_with layout c + slots_with layout a) (omega arith) f
         (reads_as (p + 4 + length xs + length ys - first) (at + 4 + length xs + length ys) (omega arith) both.1)) at_b in
         let yes : (TakesSome c ⊎ TakesSome a) ⊎ Reads (end - first) =
         ⊎_elim (λ (t : TakesSome c). inl (inl t))
@@ -291,8 +296,8 @@ module _ (first : ℕ) (ops : List Op) where
         let s = passes_on (at + 2 + length xs) (op.end_atomic slot) at_cut.0 (λ from. refl) r in
         ⊎_elim (λ (t : TakesSome a). inl (inr t))
         (λ (q : Reads (at + 3 + length xs + length ys)). inr (on_jump (at + 3 + length xs + length ys) end jumps.0 q).1)
-        (shut a (at + 3 + length xs) (p + 3 + length xs) (slot + 1 + slots_in c)
-        (λ f. through a (at + 3 + length xs) (p + 3 + length xs) (slot + 1 + slots_in c) (omega arith) f (reads_as (at + 2 + length xs + 1) (at + 3 + length xs) (omega arith) s))
+        (shut a (at + 3 + length xs) (p + 3 + length xs) (slot + 1 + slots_with layout c)
+        (λ f. through a (at + 3 + length xs) (p + 3 + length xs) (slot + 1 + slots_with layout c) (omega arith) f (reads_as (at + 2 + length xs + 1) (at + 3 + length xs) (omega arith) s))
         (has_front ops (at + 3 + length xs) ys _ at_a)))
         tested in
         ⊎_elim
@@ -302,15 +307,15 @@ module _ (first : ℕ) (ops : List Op) where
         (λ (r : Reads (end - first)). inr (refl, reads_as (end - first) _ (omega (arith, total)) r))
         yes
     through (absent a) at pc slot is here h = absurd (reads_not at (op.absent_begin slot (slot + 1)) here.0 (λ from. refl) h)
-    through (called k a) at pc slot is here h = through a at pc slot is here h
+    through (called k a) at pc slot is here h = at_call (layout k) a at pc slot h (λ there. through a at pc slot is there h) here
 
 -- The body of a loop without a counter takes a character each time.
-pub body_takes : (has_member : Text → Bool → ℕ → Bool) (fold : ℕ → ℕ) (whole : Bool) (a : CorePattern) (lo pc slot : ℕ) →
-    is_uncounted lo pc (closed (code_of has_member fold whole a []) (waits a []) pc slot) ≡ true → TakesSome a
+pub body_takes : (has_member : Text → Bool → ℕ → Bool) (fold : ℕ → ℕ) (whole : Bool) (layout : Layout) (a : CorePattern) (lo pc slot : ℕ) →
+    is_uncounted lo pc (closed (code_with has_member fold whole layout a []) (waits_with layout a []) pc slot) ≡ true → TakesSome a
 unfolding always_reads
-body_takes has_member fold whole a lo pc slot e =
-    let xs = closed (code_of has_member fold whole a []) (waits a []) pc slot in
+body_takes has_member fold whole layout a lo pc slot e =
+    let xs = closed (code_with has_member fold whole layout a []) (waits_with layout a []) pc slot in
     let both = and_parts (list_all stays xs) (reads_from pc xs reading_depth 0) (and_parts (nat_le lo 1) (always_reads pc xs) e).1 in
     let stay = λ (at slot : ℕ) (here : slice_get xs at ≡ Some (op.restore slot)). stays_each xs at slot both.0 here in
     ⊎_elim (λ (t : TakesSome a). t) (λ (r : Reads pc xs (0 + length xs)). absurd (none_following pc xs (0 + length xs) (omega arith) r.0 r.1))
-    (shut pc xs stay has_member fold whole a 0 pc slot (λ f. through pc xs stay has_member fold whole a 0 pc slot (omega arith) f (reading_depth, both.1)) (has_all xs []))
+    (shut pc xs stay has_member fold whole layout a 0 pc slot (λ f. through pc xs stay has_member fold whole layout a 0 pc slot (omega arith) f (reading_depth, both.1)) (has_all xs []))

@@ -22,7 +22,7 @@ use Rattle.fancy_regex_program.specs.SlotLayout.{slots_of_way}
 use Rattle.fancy_regex_program_laws.proofs.Denote.{end_if, end_again}
 use Rattle.fancy_regex_program_laws.proofs.DelegatedWays.{ends_onward, ends_cut, ends_until_onward, ends_until_cut}
 use Rattle.fancy_regex_program_laws.proofs.PairsInSlots.{start_of, end_of, laid_start, laid_end}
-use Rattle.fancy_regex_program_laws.proofs.Runs.{above_refl, same_refl, thread, place_is, eq_other, Sound, Follows, by_move, Does}
+use Rattle.fancy_regex_program_laws.proofs.Runs.{Keep, above_refl, same_refl, thread, place_is, eq_other, Sound, Follows, by_move, Does}
 use Rattle.fancy_regex_program_laws.proofs.ProgramParts.{with_slot_is, does_test}
 
 -- what stands before the place after one character that passes
@@ -128,7 +128,7 @@ module _ (s : Setting) (utf8 : IsUtf8 s.text) (count : ℕ) where
       (free ≡ false → w.position ≤ q) × Sound s.text count (with_position w q)
   good_before n free w q is sound e = (λ no. let both : true ≡ false = sym is ∙ no in absurd cc, before_good n w q sound e)
 
-module _ (code : List Op) (r : RunParameters) (whole : Bool) (count : ℕ) (utf8 : IsUtf8 r.setting.text) (small : length r.setting.text < unset) where
+module _ (code : List Op) (r : RunParameters) (whole : Bool) (count : ℕ) (keep : Keep count) (utf8 : IsUtf8 r.setting.text) (small : length r.setting.text < unset) where
   -- the pair of a group in the slots
   start_in : (w : MatchState) (m : List ℕ) (k : ℕ) → (whole ≡ true → 1 ≤ k) → k < count → Sound r.setting.text count w → take (2 * count) m ≡ slots_of_way whole w →
       get_or m (2 * k) 0 ≡ start_of (pair_of w k)
@@ -149,9 +149,9 @@ module _ (code : List Op) (r : RunParameters) (whole : Bool) (count : ℕ) (utf8
 
   -- a group that is set
   pub does_exists : (pc slot k : ℕ) (free : Bool) → (whole ≡ true → 1 ≤ k) → k < count → slice_get code pc ≡ Some (op.exists (2 * k)) →
-      Does code r whole count pc (pc + 1) slot 0 free (λ w f x. end_if (is_some (pair_of w k)) w f x)
+      Does code r whole count keep pc (pc + 1) slot 0 free (λ w f x. end_if (is_some (pair_of w k)) w f x)
   does_exists pc slot k free apart lt at =
-      does_test code r whole count pc slot free (op.exists (2 * k)) (λ w. is_some (pair_of w k)) at
+      does_test code r whole count keep pc slot free (op.exists (2 * k)) (λ w. is_some (pair_of w k)) at
       (λ height w m room sound fits.
       with_slot_is (2 * k) (thread pc w.position m) _ (omega arith)
       ∙ ap (λ p. goes_if (not (p == unset)) (thread pc w.position m)) (start_in w m k apart lt sound fits)
@@ -171,19 +171,19 @@ module _ (code : List Op) (r : RunParameters) (whole : Bool) (count : ℕ) (utf8
 
   -- the text of a group once more
   pub does_backref : (pc slot k : ℕ) (casei free : Bool) → (whole ≡ true → 1 ≤ k) → k < count → slice_get code pc ≡ Some (op.backref (2 * k) casei) →
-      Does code r whole count pc (pc + 1) slot 0 free (λ w f x. end_again r.setting casei (pair_of w k) w f x)
+      Does code r whole count keep pc (pc + 1) slot 0 free (λ w f x. end_again r.setting casei (pair_of w k) w f x)
   does_backref pc slot k casei free apart lt at = record {
-    by = λ low w m rest x f above_base above_low room sound fits pops exits.
+    by = λ low w m rest x f above_base above_low room ready sound fits pops exits.
         let t : Thread = thread pc w.position m in
         let acts : act r (Some (op.backref (2 * k) casei)) (length rest) t ≡ backref_move r.setting casei (start_of (pair_of w k)) (end_of (pair_of w k)) t =
-        with_slot_is (2 * k) t _ (omega arith) ∙ with_slot_is (2 * k + 1) t _ (omega arith)
+        with_slot_is (2 * k) t _ (omega (arith, ready.long)) ∙ with_slot_is (2 * k + 1) t _ (omega (arith, ready.long))
         ∙ ap (λ p. backref_move r.setting casei p (get_or m (2 * k + 1) 0) t) (start_in w m k apart lt sound fits)
         ∙ ap (λ p. backref_move r.setting casei (start_of (pair_of w k)) p t) (end_in w m k apart lt sound fits) in
         let tested : (a b : ℕ) → pair_of w k ≡ Some (a, b) → (c : Bool) → match_backref r.setting casei a b w.position ≡ c →
         Follows code r whole count rest (cond c (goes (moved (w.position + (b - a)) t)) fails) (cond c (f (with_position w (w.position + (b - a))) x) x) =
         λ a b e c. elim c as (λ c. match_backref r.setting casei a b w.position ≡ c → Follows code r whole count rest (cond c (goes (moved (w.position + (b - a)) t)) fails) (cond c (f (with_position w (w.position + (b - a))) x) x)) [
           | true ↦ λ yes. exits.go (with_position w (w.position + (b - a))) m rest x (λ _. omega arith)
-              (record { cuts = (keeps_cuts r.setting utf8).again k casei a b w sound.cuts e yes; many = sound.many }) fits (same_refl (2 * count) low m) (above_refl rest) pops
+              (record { cuts = (keeps_cuts r.setting utf8).again k casei a b w sound.cuts e yes; many = sound.many }) fits (same_refl keep low m) (above_refl rest) pops
           | false ↦ λ no. pops
         ] in
         let go : (o : Option (ℕ × ℕ)) → pair_of w k ≡ o → Follows code r whole count rest (backref_move r.setting casei (start_of o) (end_of o) t) (end_again r.setting casei o w f x) =

@@ -1,4 +1,4 @@
--- The outcome of a search, start after start.
+-- What the trails of a search end as, start after start.
 use Rattle.std.proofs.Common.{◌≡◌, ℕ, ◌+◌, ◌<◌, ◌≤◌, Bool, true, false, List, [], ◌∷◌, map, length, Option, Some, None, refl, sym, ap, ◌∙◌, arith, cond, ⊎_elim}
 use Rattle.std.specs.Prelude.{nat_lt, option_map, is_some}
 use Rattle.std.specs.List.{filter}
@@ -11,12 +11,12 @@ use Rattle.fancy_regex_program.specs.Machine.{unset, RunParameters}
 use Rattle.fancy_regex_program.specs.SlotLayout.{slots_of_match}
 use Rattle.fancy_regex_program.specs.Shapes.{IsWritable}
 use Rattle.fancy_regex_program_laws.specs.ProgramLaws.{FoundMatch, entry_way, way_at, choices_up_to}
-use Rattle.fancy_regex_program_laws.proofs.Denote.{Outcome, PersistentState, Continuation, SuccessContinuation, opens}
+use Rattle.fancy_regex_program_laws.proofs.Denote.{PersistentState}
 use Rattle.fancy_regex_program_laws.proofs.Runs.{lt_yes, lt_no}
-use Rattle.fancy_regex_program_laws.proofs.Trail.{Open, Close, At, Trail, folded, states, opened, trail}
+use Rattle.fancy_regex_program_laws.proofs.Trail.{Open, Close, At, Trail, TrailOutcome, TrailContinuation, TrailSuccess, after_open, folded, states, opened, trail}
 use Rattle.fancy_regex_program_laws.proofs.WaysOf.{states_trail, opened_trail}
 
-abbrev pub outcome_of : Option FoundMatch → Outcome
+abbrev pub outcome_of : Option FoundMatch → TrailOutcome
 outcome_of answer = record { answer = answer; branches = 0; claimed = true }
 
 abbrev pub better : Option FoundMatch → FoundMatch → Option FoundMatch
@@ -36,7 +36,7 @@ module _ (find : Search) (whole : Bool) where
   found_by_way w = record { position = w.position; start = cond whole w.match_start 0; slots = slots_of_match whole w }
 
   -- what follows a way at the program's end
-  abbrev pub at_end : Bool → SuccessContinuation
+  abbrev pub at_end : Bool → TrailSuccess
   at_end longest v x state =
       cond (is_admitted find v) (cond longest (x (holding state.limit (better state.best_match (found_by_way v)))) (outcome_of (Some (found_by_way v)))) (x state)
 
@@ -44,14 +44,14 @@ module _ (find : Search) (whole : Bool) where
   wanted es = filter (is_admitted find) (states es)
 
   -- the outcome of each way is claimed
-  claims_ways : (longest : Bool) (r : Continuation) → ((state : PersistentState) → (r state).claimed ≡ true) → (es : Trail) (state : PersistentState) → (folded (at_end longest) r es state).claimed ≡ true
+  claims_ways : (longest : Bool) (r : TrailContinuation) → ((state : PersistentState) → (r state).claimed ≡ true) → (es : Trail) (state : PersistentState) → (folded (at_end longest) r es state).claimed ≡ true
   claims_ways longest r h [] state = h state
   claims_ways longest r h (Open ∷ es) state = claims_ways longest r h es state
   claims_ways longest r h (Close ∷ es) state = claims_ways longest r h es state
   claims_ways longest r h (At w ∷ es) state =
       at_way (is_admitted find w) longest (claims_ways longest r h es (holding state.limit (better state.best_match (found_by_way w)))) (claims_ways longest r h es state)
     where
-      rest : Continuation
+      rest : TrailContinuation
       rest = folded (at_end longest) r es
 
       at_way : (admitted last : Bool) → (rest (holding state.limit (better state.best_match (found_by_way w)))).claimed ≡ true → (rest state).claimed ≡ true →
@@ -61,7 +61,7 @@ module _ (find : Search) (whole : Bool) where
       at_way false last claims passed = passed
 
   -- with longest, all ways are seen
-  all_answer : (r : Continuation) (es : Trail) (l : ℕ) (best : Option FoundMatch) →
+  all_answer : (r : TrailContinuation) (es : Trail) (l : ℕ) (best : Option FoundMatch) →
       (folded (at_end true) r es (holding l best)).answer ≡ (r (holding l (bests best (map found_by_way (wanted es))))).answer
   all_answer r [] l best = refl
   all_answer r (Open ∷ es) l best = all_answer r es l best
@@ -73,7 +73,7 @@ module _ (find : Search) (whole : Bool) where
         | false ↦ all_answer r es l best
       ]
 
-  all_opened : (r : Continuation) (es : Trail) (l : ℕ) (best : Option FoundMatch) →
+  all_opened : (r : TrailContinuation) (es : Trail) (l : ℕ) (best : Option FoundMatch) →
       (folded (at_end true) r es (holding l best)).branches ≤ opened es + (r (holding l (bests best (map found_by_way (wanted es))))).branches
   all_opened r [] l best = omega arith
   all_opened r (Open ∷ es) l best = omega (arith, all_opened r es l best)
@@ -86,11 +86,11 @@ module _ (find : Search) (whole : Bool) where
       ]
 
   -- else the first
-  abbrev first_outcome : Outcome → List MatchState → Outcome
+  abbrev first_outcome : TrailOutcome → List MatchState → TrailOutcome
   first_outcome t [] = t
   first_outcome t (w ∷ ws) = outcome_of (Some (found_by_way w))
 
-  first_answer : (r : Continuation) (es : Trail) (state : PersistentState) → (folded (at_end false) r es state).answer ≡ (first_outcome (r state) (wanted es)).answer
+  first_answer : (r : TrailContinuation) (es : Trail) (state : PersistentState) → (folded (at_end false) r es state).answer ≡ (first_outcome (r state) (wanted es)).answer
   first_answer r [] state = refl
   first_answer r (Open ∷ es) state = first_answer r es state
   first_answer r (Close ∷ es) state = first_answer r es state
@@ -101,7 +101,7 @@ module _ (find : Search) (whole : Bool) where
         | false ↦ first_answer r es state
       ]
 
-  first_opened : (r : Continuation) (es : Trail) (state : PersistentState) → (folded (at_end false) r es state).branches ≤ opened es + (first_outcome (r state) (wanted es)).branches
+  first_opened : (r : TrailContinuation) (es : Trail) (state : PersistentState) → (folded (at_end false) r es state).branches ≤ opened es + (first_outcome (r state) (wanted es)).branches
   first_opened r [] state = omega arith
   first_opened r (Open ∷ es) state = omega (arith, first_opened r es state)
   first_opened r (Close ∷ es) state = omega (arith, first_opened r es state)
@@ -151,15 +151,15 @@ module _ (find : Search) (whole : Bool) where
   bests_none [] = refl
   bests_none (w ∷ ws) = bests_some w ws
 
-  abbrev chosen_outcome : Outcome → Option MatchState → Outcome
+  abbrev chosen_outcome : TrailOutcome → Option MatchState → TrailOutcome
   chosen_outcome t None = t
   chosen_outcome t (Some w) = outcome_of (Some (found_by_way w))
 
-  first_chosen : (t : Outcome) (ws : List MatchState) → first_outcome t ws ≡ chosen_outcome t (first_item ws)
+  first_chosen : (t : TrailOutcome) (ws : List MatchState) → first_outcome t ws ≡ chosen_outcome t (first_item ws)
   first_chosen t [] = refl
   first_chosen t (w ∷ ws) = refl
 
-  module _ (l : ℕ) (r : Continuation) (over : (h : FoundMatch) → r (holding l (Some h)) ≡ outcome_of (Some h)) where
+  module _ (l : ℕ) (r : TrailContinuation) (over : (h : FoundMatch) → r (holding l (Some h)) ≡ outcome_of (Some h)) where
     longest_chosen : (o : Option MatchState) → r (holding l (option_map found_by_way o)) ≡ chosen_outcome (r (holding l None)) o
     longest_chosen None = refl
     longest_chosen (Some w) = over (found_by_way w)
@@ -176,31 +176,31 @@ module _ (find : Search) (whole : Bool) where
     attempt_opened true es =
         omega (arith, all_opened r es l None, ap (λ o. (r (holding l o)).branches) (bests_none (wanted es)), ap (λ t. t.branches) (longest_chosen (first_longest (wanted es))))
 
-abbrev pub else_outcome : Option FoundMatch → Outcome → Outcome
+abbrev pub else_outcome : Option FoundMatch → TrailOutcome → TrailOutcome
 else_outcome None t = t
 else_outcome (Some h) t = outcome_of (Some h)
 
 module _ (r : RunParameters) (p : CorePattern) (whole : Bool) (count : ℕ) (first : ℕ) (ok : IsWritable first count p) (small : length r.setting.text < unset) where
-  abbrev pub end_follow : SuccessContinuation
+  abbrev pub end_follow : TrailSuccess
   end_follow = at_end r.find whole r.find.options.longest
 
   abbrev pub trail_from : ℕ → Trail
   trail_from q = trail r.setting (tail_bound r.find) p (entry_way count q)
 
   -- a branch for the next start, if there is one
-  abbrev pub with_next : List ℕ → Continuation → Continuation
+  abbrev pub with_next : List ℕ → TrailContinuation → TrailContinuation
   with_next [] x = x
-  with_next (q ∷ qs) x = opens x
+  with_next (q ∷ qs) x = after_open x
 
   -- the outcome where the start before has no way left: a match that was found, or that of the other starts
-  abbrev pub after : List ℕ → Continuation
+  abbrev pub after : List ℕ → TrailContinuation
   after [] state = outcome_of state.best_match
   after (q ∷ qs) state = else_outcome state.best_match (with_next qs (folded end_follow (after qs) (trail_from q)) state)
 
-  abbrev pub search_outcome : ℕ → List ℕ → Continuation
+  abbrev pub search_outcome : ℕ → List ℕ → TrailContinuation
   search_outcome q qs = with_next qs (folded end_follow (after qs) (trail_from q))
 
-  next_claims : (qs : List ℕ) (x : Continuation) (state : PersistentState) → (x state).claimed ≡ true → (with_next qs x state).claimed ≡ true
+  next_claims : (qs : List ℕ) (x : TrailContinuation) (state : PersistentState) → (x state).claimed ≡ true → (with_next qs x state).claimed ≡ true
   next_claims [] x state h = h
   next_claims (q ∷ qs) x state h = h
 
@@ -220,11 +220,11 @@ module _ (r : RunParameters) (p : CorePattern) (whole : Bool) (count : ℕ) (fir
       next_claims qs (folded end_follow (after qs) (trail_from q)) state
       (claims_ways r.find whole r.find.options.longest (after qs) (after_claims qs) (trail_from q) state)
 
-  next_answer : (qs : List ℕ) (x : Continuation) (state : PersistentState) → (with_next qs x state).answer ≡ (x state).answer
+  next_answer : (qs : List ℕ) (x : TrailContinuation) (state : PersistentState) → (with_next qs x state).answer ≡ (x state).answer
   next_answer [] x state = refl
   next_answer (q ∷ qs) x state = refl
 
-  next_opened : (qs : List ℕ) (x : Continuation) (state : PersistentState) → (with_next qs x state).branches ≤ 1 + (x state).branches
+  next_opened : (qs : List ℕ) (x : TrailContinuation) (state : PersistentState) → (with_next qs x state).branches ≤ 1 + (x state).branches
   next_opened [] x state = omega arith
   next_opened (q ∷ qs) x state = omega arith
 

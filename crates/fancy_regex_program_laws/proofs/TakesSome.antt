@@ -1,23 +1,19 @@
 -- Patterns each of whose ways takes a character.
-use Rattle.std.proofs.Common.{◌≡◌, ℕ, zero, suc, ◌+◌, ◌-◌, ◌<◌, Bool, false, List, [], ◌∷◌, length, Option, Some, None, ◌⊎◌, inl, inr, ⊎_elim, refl, sym, ap, ◌∙◌, subst, arith, cond}
+use Rattle.std.proofs.Common.{◌≡◌, ℕ, zero, suc, ◌+◌, ◌-◌, ◌<◌, Bool, true, false, length, Option, Some, None, ◌⊎◌, inl, inr, refl, arith, cond}
 use Rattle.std.specs.Prelude.{◌&&◌}
-use Rattle.std.specs.List.{flat_map}
 use Rattle.std.specs.Char.{len_utf8}
+use Rattle.std.proofs.lemmas.Option.{none-some, same_Some}
 use Rattle.std.proofs.lemmas.Str.{len_utf8_bounds}
 use Rattle.regex_hir.specs.Text.{char_at}
 use Rattle.fancy_regex_meaning.specs.Positions.{is_before_byte}
-use Rattle.fancy_regex_meaning.specs.WayLaws.{Each}
-use Rattle.fancy_regex_meaning.specs.Ways as row
-use Rattle.fancy_regex_meaning.specs.Ways.{MatchState, Moves, Setting, with_position, set_pair, character, up_to, due, loop}
-use Rattle.fancy_regex_meaning.proofs.EachLemmas.{Each-weaker, Each-append, Each-map, Each-flat_map, Each-cond, Each-for_some}
+use Rattle.fancy_regex_meaning.specs.Ways.{MatchState, Setting, set_pair, is_newline}
 use Rattle.fancy_regex_desugar.specs.CorePatterns.{CorePattern, nothing, read, general_newline, check, continue, keep_out, fail, cat, alt, group, ahead, never, back, atomic, delegate, tail, repeat, backref, exists, conditional, absent, called}
-use Rattle.fancy_regex_desugar.specs.CoreWays.{passes, core_ways}
+use Rattle.fancy_regex_desugar.specs.CoreWays.{passes}
 use Rattle.fancy_regex_desugar.specs.Shapes.{StepsBackOnlyFirst}
-use Rattle.fancy_regex_program.specs.Machine.{unset}
-use Rattle.fancy_regex_program.specs.Shapes.{IsWritable}
-use Rattle.fancy_regex_program_laws.proofs.Denote.{Continuation, SuccessContinuation, opens, closes, ending}
-use Rattle.fancy_regex_program_laws.proofs.Trail.{Open, Close, At, Trail, folded, states, trail, ending_trail}
-use Rattle.fancy_regex_program_laws.proofs.WaysOf.{first_kept, Onward, follows_onward, keep_due, keep_up_to, keep_loop, leads_onward, states_trail}
+use Rattle.fancy_regex_program.specs.Machine.{match_char, match_newline}
+use Rattle.fancy_regex_program_laws.proofs.Denote.{end_choice, end_upto, end_loop, end_times, ending}
+use Rattle.fancy_regex_program_laws.proofs.WaysOf.{Onward}
+use Rattle.fancy_regex_program_laws.proofs.OnwardEndings.{Asks, asks_to, asks_both, asks_choice, asks_alt, asks_first, ending_onward, onward_rest, onward_rest_upto}
 
 abbrev pub TakesSome : CorePattern → Type 0
 TakesSome (read leaf) = Unit {0}
@@ -37,78 +33,69 @@ TakesSome _ = ⊥
 abbrev Past : MatchState → MatchState → Type 0
 Past w v = w.position < v.position
 
--- a step onward, and then one past, and the other way round
-then_past : (w : MatchState) (f g : Moves) → Each (Onward w) (f w) → ((v : MatchState) → Each (Past v) (g v)) → Each (Past w) (flat_map g (f w))
-then_past w f g hf hg =
-    Each-flat_map (Onward w) (Past w) g (λ v e. Each-weaker (Past v) (Past w) (λ u d. omega (arith, e, d)) (g v) (hg v)) (f w) hf
+onward_past : (u v w : MatchState) → Onward u v → Past v w → Past u w
+onward_past u v w d e = omega (arith, d, e)
 
-past_then : (w : MatchState) (f g : Moves) → Each (Past w) (f w) → ((v : MatchState) → Each (Onward v) (g v)) → Each (Past w) (flat_map g (f w))
-past_then w f g hf hg =
-    Each-flat_map (Past w) (Past w) g (λ v e. Each-weaker (Onward v) (Past w) (λ u d. omega (arith, e, d)) (g v) (hg v)) (f w) hf
-
-past_choice : (ws : List MatchState) (a b : Moves) (w : MatchState) → Each (Past w) ws ⊎ (Each (Onward w) ws × ((v : MatchState) → Each (Past v) (a v))) →
-    ((v : MatchState) → Each (Onward v) (a v)) → Each (Past w) (b w) → Each (Past w) (row.conditional ws a b w)
-past_choice [] a b w h ha hb = hb
-past_choice (v ∷ vs) a b w (inl h) ha hb = Each-weaker (Onward v) (Past w) (λ u d. omega (arith, h.0, d)) (a v) (ha v)
-past_choice (v ∷ vs) a b w (inr h) ha hb = Each-weaker (Past v) (Past w) (λ u d. omega (arith, h.0.0, d)) (a v) (h.1 v)
+past_onward : (u v w : MatchState) → Past u v → Onward v w → Past u w
+past_onward u v w d e = omega (arith, d, e)
 
 module _ (s : Setting) (bound : Option ℕ) where
-  past_char : (test : ℕ → Bool) (w : MatchState) → Each (Past w) (character s test w)
-  past_char test w =
-      Each-for_some (Past w) (λ c. cond (test c) (with_position w (w.position + len_utf8 c) ∷ []) []) (char_at s.text w.position)
-      (λ c e. Each-cond (Past w) (test c) (with_position w (w.position + len_utf8 c) ∷ []) [] (omega (arith, (len_utf8_bounds c).0), tt) tt)
+  char_takes : (test : ℕ → Bool) (p q : ℕ) → match_char s.text test p ≡ Some q → p < q
+  char_takes test p q e = at (char_at s.text p) e
+    where
+      tested : (c : ℕ) (b : Bool) → cond b (Some (p + len_utf8 c)) None ≡ Some q → p < q
+      tested c true d = let same : p + len_utf8 c ≡ q = same_Some (p + len_utf8 c) q d in omega (arith, (len_utf8_bounds c).0)
+      tested c false d = absurd (none-some q d)
 
-  pub leads_past : (p : CorePattern) → TakesSome p → StepsBackOnlyFirst false p → (w : MatchState) → Each (Past w) (core_ways s bound p w)
-  unfolding core_ways
-  leads_past nothing t k w = absurd t
-  leads_past (check a) t k w = absurd t
-  leads_past continue t k w = absurd t
-  leads_past keep_out t k w = absurd t
-  leads_past (ahead a) t k w = absurd t
-  leads_past (never a) t k w = absurd t
-  leads_past (back n) t k w = absurd t
-  leads_past (delegate u a) t k w = absurd t
-  leads_past (tail u a) t k w = absurd t
-  leads_past (repeat a zero hi greedy) t k w = absurd t
-  leads_past (backref n casei) t k w = absurd t
-  leads_past (exists n) t k w = absurd t
-  leads_past (absent a) t k w = absurd t
-  leads_past fail t k w = tt
-  leads_past (read leaf) t k w = past_char (passes s leaf) w
-  leads_past (general_newline unicode) t k w =
-      Each-cond (Past w) (is_before_byte s.text 13 w.position && is_before_byte s.text 10 (w.position + 1)) (with_position w (w.position + 2) ∷ [])
-      (character s (row.is_newline s unicode) w) (omega arith, tt) (past_char (row.is_newline s unicode) w)
-  leads_past (cat a b) (inl t) k w = past_then w (core_ways s bound a) (core_ways s bound b) (leads_past a t k.0 w) (leads_onward s bound b k.1)
-  leads_past (cat a b) (inr t) k w = then_past w (core_ways s bound a) (core_ways s bound b) (leads_onward s bound a k.0 w) (leads_past b t k.1)
-  leads_past (alt a b) t k w = Each-append (Past w) (core_ways s bound a w) (core_ways s bound b w) (leads_past a t.0 k.0 w) (leads_past b t.1 k.1 w)
-  leads_past (group n a) t k w = Each-map (Past w) (Past w) (λ v. set_pair n (w.position, v.position) v) (λ v e. e) (core_ways s bound a w) (leads_past a t k w)
-  leads_past (atomic a) t k w = first_kept (Past w) (core_ways s bound a w) (leads_past a t k w)
-  leads_past (repeat a (suc lo) None greedy) t k w =
-      past_then w (core_ways s bound a) (due lo (core_ways s bound a) (loop (length s.text + 1) greedy (core_ways s bound a))) (leads_past a t k w)
-      (keep_due Onward follows_onward lo (core_ways s bound a) (loop (length s.text + 1) greedy (core_ways s bound a)) (leads_onward s bound a k)
-      (keep_loop Onward follows_onward (length s.text + 1) greedy (core_ways s bound a) (leads_onward s bound a k)))
-  leads_past (repeat a (suc lo) (Some hi) greedy) t k w =
-      past_then w (core_ways s bound a) (due lo (core_ways s bound a) (up_to (hi - suc lo) greedy (core_ways s bound a))) (leads_past a t k w)
-      (keep_due Onward follows_onward lo (core_ways s bound a) (up_to (hi - suc lo) greedy (core_ways s bound a)) (leads_onward s bound a k)
-      (keep_up_to Onward follows_onward (hi - suc lo) greedy (core_ways s bound a) (leads_onward s bound a k)))
-  leads_past (conditional c a b) t k w =
-      past_choice (core_ways s bound c w) (core_ways s bound a) (core_ways s bound b) w
-      (⊎_elim (λ (h : TakesSome c). inl (leads_past c h k.0 w)) (λ (h : TakesSome a). inr (leads_onward s bound c k.0 w, leads_past a h k.1)) t.0)
-      (leads_onward s bound a k.1) (leads_past b t.1 k.2 w)
-  leads_past (called n a) t k w = leads_past a t k w
+      at : (o : Option ℕ) → (elim o [ None ↦ None | Some c ↦ cond (test c) (Some (p + len_utf8 c)) None ]) ≡ Some q → p < q
+      at None d = absurd (none-some q d)
+      at (Some c) d = tested c (test c) d
 
--- the same trail with followers that agree on its ways
-folded_as : (P : MatchState → Type 0) (k k' : SuccessContinuation) (r : Continuation) (es : Trail) → Each P (states es) → ((v : MatchState) (x : Continuation) → P v → k v x ≡ k' v x) → folded k r es ≡ folded k' r es
-folded_as P k k' r [] h e = refl
-folded_as P k k' r (Open ∷ es) h e = ap opens (folded_as P k k' r es h e)
-folded_as P k k' r (Close ∷ es) h e = ap closes (folded_as P k k' r es h e)
-folded_as P k k' r (At w ∷ es) h e = ap (k w) (folded_as P k k' r es h.1 e) ∙ e w (folded k' r es) h.0
+  newline_takes : (unicode : Bool) (p q : ℕ) → match_newline s unicode p ≡ Some q → p < q
+  newline_takes unicode p q e = choose (is_before_byte s.text 13 p && is_before_byte s.text 10 (p + 1)) e
+    where
+      choose : (b : Bool) → cond b (Some (p + 2)) (match_char s.text (is_newline s unicode) p) ≡ Some q → p < q
+      choose true d = let same : p + 2 ≡ q = same_Some (p + 2) q d in omega arith
+      choose false d = char_takes (is_newline s unicode) p q d
 
-module _ (s : Setting) (bound : Option ℕ) (small : length s.text < unset) where
+  past_choice : (c a b : CorePattern) → TakesSome c ⊎ TakesSome a → (TakesSome c → Asks Past (ending s bound c)) → (TakesSome a → Asks Past (ending s bound a)) →
+      Asks Onward (ending s bound c) → Asks Onward (ending s bound a) → Asks Past (ending s bound b) → Asks Past (end_choice (ending s bound c) (ending s bound a) (ending s bound b))
+  past_choice c a b (inl t) hc ha oc oa hb = asks_choice Past Onward Past past_onward (ending s bound c) (ending s bound a) (ending s bound b) (hc t) oa hb
+  past_choice c a b (inr t) hc ha oc oa hb = asks_choice Onward Past Past onward_past (ending s bound c) (ending s bound a) (ending s bound b) oc (ha t) hb
+
   -- Where each way takes a character, only what follows further on counts.
-  pub ending_past : (first end : ℕ) (p : CorePattern) → IsWritable first end p → StepsBackOnlyFirst false p → TakesSome p → (w : MatchState) (k k' : SuccessContinuation) (x : Continuation) →
-      ((v : MatchState) (y : Continuation) → w.position < v.position → k v y ≡ k' v y) → ending s bound p w k x ≡ ending s bound p w k' x
-  ending_past first end p ok placed t w k k' x e =
-      ending_trail s bound p w k x
-      ∙ folded_as (Past w) k k' x (trail s bound p w) (subst (Each (Past w)) (sym (states_trail s bound small first end p ok w)) (leads_past s bound p t placed w)) e
-      ∙ sym (ending_trail s bound p w k' x)
+  pub ending_past : (p : CorePattern) → TakesSome p → StepsBackOnlyFirst false p → Asks Past (ending s bound p)
+  ending_past nothing t o w k k' x e = absurd t
+  ending_past (check a) t o w k k' x e = absurd t
+  ending_past continue t o w k k' x e = absurd t
+  ending_past keep_out t o w k k' x e = absurd t
+  ending_past (ahead a) t o w k k' x e = absurd t
+  ending_past (never a) t o w k k' x e = absurd t
+  ending_past (back n) t o w k k' x e = absurd t
+  ending_past (delegate u a) t o w k k' x e = absurd t
+  ending_past (tail u a) t o w k k' x e = absurd t
+  ending_past (repeat a zero hi greedy) t o w k k' x e = absurd t
+  ending_past (backref n casei) t o w k k' x e = absurd t
+  ending_past (exists n) t o w k k' x e = absurd t
+  ending_past (absent a) t o w k k' x e = absurd t
+  ending_past fail t o w k k' x e = refl
+  ending_past (read leaf) t o w k k' x e = asks_to Past (match_char s.text (passes s leaf) w.position) w (λ q d. char_takes (passes s leaf) w.position q d) k k' x e
+  ending_past (general_newline unicode) t o w k k' x e = asks_to Past (match_newline s unicode w.position) w (λ q d. newline_takes unicode w.position q d) k k' x e
+  ending_past (cat a b) (inl t) o w k k' x e =
+      asks_both Past Onward Past past_onward (ending s bound a) (ending s bound b) (ending_past a t o.0) (ending_onward s bound b o.1) w k k' x e
+  ending_past (cat a b) (inr t) o w k k' x e =
+      asks_both Onward Past Past onward_past (ending s bound a) (ending s bound b) (ending_onward s bound a o.0) (ending_past b t o.1) w k k' x e
+  ending_past (alt a b) t o w k k' x e = asks_alt Past (ending s bound a) (ending s bound b) (ending_past a t.0 o.0) (ending_past b t.1 o.1) w k k' x e
+  ending_past (group n a) t o w k k' x e =
+      ending_past a t o w (λ v y. k (set_pair n (w.position, v.position) v) y) (λ v y. k' (set_pair n (w.position, v.position) v) y) x
+      (λ v y d. e (set_pair n (w.position, v.position) v) y d)
+  ending_past (atomic a) t o w k k' x e = asks_first Past (ending s bound a) (ending_past a t o) w k k' x e
+  ending_past (repeat a (suc lo) None greedy) t o w k k' x e =
+      asks_both Past Onward Past past_onward (ending s bound a) (end_times (ending s bound a) lo (end_loop (ending s bound a) greedy (length s.text + 1)))
+      (ending_past a t o) (onward_rest s bound a o lo greedy (length s.text + 1)) w k k' x e
+  ending_past (repeat a (suc lo) (Some hi) greedy) t o w k k' x e =
+      asks_both Past Onward Past past_onward (ending s bound a) (end_times (ending s bound a) lo (end_upto (ending s bound a) greedy (hi - suc lo)))
+      (ending_past a t o) (onward_rest_upto s bound a o lo greedy (hi - suc lo)) w k k' x e
+  ending_past (conditional c a b) t o w k k' x e =
+      past_choice c a b t.0 (λ h. ending_past c h o.0) (λ h. ending_past a h o.1) (ending_onward s bound c o.0) (ending_onward s bound a o.1) (ending_past b t.1 o.2) w k k' x e
+  ending_past (called n a) t o w k k' x e = ending_past a t o w k k' x e

@@ -170,7 +170,7 @@ each_within : (P : MatchState → Type 0) (ws : List MatchState) (vs : ℕ → L
 each_within P ws vs None h k = h
 each_within P ws vs (Some stop) h k = k stop
 
-pub first_kept : (P : MatchState → Type 0) (ws : List MatchState) → Each P ws → Each P (first_only ws)
+first_kept : (P : MatchState → Type 0) (ws : List MatchState) → Each P ws → Each P (first_only ws)
 first_kept P [] h = h
 first_kept P (w ∷ ws) h = (h.0, tt)
 
@@ -179,30 +179,30 @@ each_at P f h [] = tt
 each_at P f h (q ∷ qs) = (h q, each_at P f h qs)
 
 -- what goes on in steps, each of which keeps to a relation
-pub record Follows (R : MatchState → MatchState → Type 0) : Type 0 where
+record Follows (R : MatchState → MatchState → Type 0) : Type 0 where
   stays : (w : MatchState) → R w w
   joins : (u v w : MatchState) → R u v → R v w → R u w
 
 module _ (R : MatchState → MatchState → Type 0) (follows : Follows R) where
-  abbrev pub AllKeep : Moves → Type 0
+  abbrev AllKeep : Moves → Type 0
   AllKeep f = (w : MatchState) → Each (R w) (f w)
 
-  pub keep_over : (f g : Moves) → AllKeep f → AllKeep g → AllKeep (λ w. flat_map g (f w))
+  keep_over : (f g : Moves) → AllKeep f → AllKeep g → AllKeep (λ w. flat_map g (f w))
   keep_over f g hf hg w = Each-flat_map (R w) (R w) g (λ v e. Each-weaker (R v) (R w) (λ u d. follows.joins w v u e d) (g v) (hg v)) (f w) (hf w)
 
   keep_prefer : (w : MatchState) (greedy : Bool) (ws : List MatchState) → Each (R w) ws → Each (R w) (prefer greedy ws (w ∷ []))
   keep_prefer w true ws h = Each-append (R w) ws (w ∷ []) h (follows.stays w, tt)
   keep_prefer w false ws h = (follows.stays w, h)
 
-  pub keep_due : (n : ℕ) (f rest : Moves) → AllKeep f → AllKeep rest → AllKeep (due n f rest)
+  keep_due : (n : ℕ) (f rest : Moves) → AllKeep f → AllKeep rest → AllKeep (due n f rest)
   keep_due zero f rest hf hr w = hr w
   keep_due (suc n) f rest hf hr w = keep_over f (due n f rest) hf (keep_due n f rest hf hr) w
 
-  pub keep_up_to : (n : ℕ) (greedy : Bool) (f : Moves) → AllKeep f → AllKeep (up_to n greedy f)
+  keep_up_to : (n : ℕ) (greedy : Bool) (f : Moves) → AllKeep f → AllKeep (up_to n greedy f)
   keep_up_to zero greedy f hf w = (follows.stays w, tt)
   keep_up_to (suc n) greedy f hf w = keep_prefer w greedy (flat_map (up_to n greedy f) (f w)) (keep_over f (up_to n greedy f) hf (keep_up_to n greedy f hf) w)
 
-  pub keep_loop : (n : ℕ) (greedy : Bool) (f : Moves) → AllKeep f → AllKeep (loop n greedy f)
+  keep_loop : (n : ℕ) (greedy : Bool) (f : Moves) → AllKeep f → AllKeep (loop n greedy f)
   keep_loop zero greedy f hf w = tt
   keep_loop (suc n) greedy f hf w =
       let g : Moves = λ v. cond (v.position == w.position) (v ∷ []) (loop n greedy f v) in
@@ -227,7 +227,7 @@ follows_kept = record { stays = λ w. refl; joins = λ u v w e d. d ∙ e }
 abbrev pub Onward : MatchState → MatchState → Type 0
 Onward w v = w.position ≤ v.position
 
-pub follows_onward : Follows Onward
+follows_onward : Follows Onward
 follows_onward = record { stays = λ w. omega arith; joins = λ u v w e d. omega (arith, e, d) }
 
 abbrev AllKept : Moves → Type 0
@@ -303,7 +303,7 @@ module _ (s : Setting) (bound : Option ℕ) where
   onward_alone w (v ∷ vs) = (omega arith, onward_alone w vs)
 
   -- where no node goes back but in a look-around, every way leads onward
-  pub leads_onward : (p : CorePattern) → StepsBackOnlyFirst false p → AllKeep Onward follows_onward (core_ways s bound p)
+  leads_onward : (p : CorePattern) → StepsBackOnlyFirst false p → AllKeep Onward follows_onward (core_ways s bound p)
   unfolding core_ways
   leads_onward nothing k w = (omega arith, tt)
   leads_onward (read leaf) k w = onward_char (passes s leaf) w

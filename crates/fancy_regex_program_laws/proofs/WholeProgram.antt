@@ -17,18 +17,19 @@ use Rattle.fancy_regex_desugar.specs.Delegates.{tail_bound}
 use Rattle.fancy_regex_slots.specs.Memory.{Thread}
 use Rattle.fancy_regex_program.specs.Ops as op
 use Rattle.fancy_regex_program.specs.Ops.{Op}
-use Rattle.fancy_regex_program.specs.Machine.{unset, RunParameters, Ending, ended, initial_run_state, Move, goes, forks, fails, accepts, wrote, act, with_slot, starts_here, next_start, farther, is_start, is_scan, back, pop, exec, run, anchored_by, tried, first_thread}
-use Rattle.fancy_regex_program.specs.Code.{slots_in, opening, closing, program_of}
+use Rattle.fancy_regex_program.specs.Machine.{unset, most_branches, RunParameters, Ending, ended, initial_run_state, Move, goes, forks, fails, accepts, wrote, act, with_slot, starts_here, next_start, farther, is_start, is_scan, back, pop, exec, run, anchored_by, tried, first_thread}
+use Rattle.fancy_regex_program.specs.Code.{written_out, slots_in, opening, closing, program_of, code_of}
 use Rattle.fancy_regex_program.specs.SlotLayout.{slots_of_way, slots_of_match}
 use Rattle.fancy_regex_class.specs.RunInputs.{group_slots}
-use Rattle.fancy_regex_program_laws.specs.ProgramLaws.{FoundMatch, found_by_thread, entry_way, way_at, choices_up_to, first_group_number, RunRequirements, attempted_starts, Terminates, ProgramsAnswerSearches}
-use Rattle.fancy_regex_program_laws.proofs.Denote.{Continuation, SuccessContinuation, ending}
-use Rattle.fancy_regex_program_laws.proofs.Runs.{thread, Within, IsPlain, Sound, Comes, state, Pops, Follows, forked, by_move, Does}
+use Rattle.fancy_regex_program_laws.specs.ProgramLaws.{FoundMatch, found_by_thread, entry_way, way_at, choices_up_to, first_group_number, RunRequirements, attempted_starts, ProgramsAnswerSearches}
+use Rattle.fancy_regex_program_laws.proofs.Denote.{Continuation, SuccessContinuation, overflowed, ending}
+use Rattle.fancy_regex_program_laws.proofs.Runs.{Keep, lone, Ready, thread, lt_no, overflow_above, Within, IsPlain, Sound, Comes, point, Pops, Follows, forked, by_move, Does}
 use Rattle.fancy_regex_program_laws.proofs.ProgramParts.{HasAt, has_front, has_back, has_all, plain_at, with_slot_is}
-use Rattle.fancy_regex_program_laws.proofs.Emitted.{closed_code, runs_closed}
+use Rattle.fancy_regex_program_laws.proofs.Emitted.{closed_code, runs_closed, calls_written_out}
 use Rattle.fancy_regex_program_laws.proofs.PairsInSlots.{length_flat}
-use Rattle.fancy_regex_program_laws.proofs.Trail.{folded, ending_trail}
-use Rattle.fancy_regex_program_laws.proofs.StartByStart.{outcome_of, better, holding, found_by_way, end_follow, trail_from, after, search_outcome, search_claims, search_answer, search_opened}
+use Rattle.fancy_regex_program_laws.proofs.Trail.{bounded}
+use Rattle.fancy_regex_program_laws.proofs.StartByStart.{better, found_by_way, search_outcome, search_claims, search_answer, search_opened}
+use Rattle.fancy_regex_program_laws.proofs.SearchEndings.{ended_with, keeping, at_first, at_finish, from_start, others, search_ends, search_total, search_alike}
 
 -- All operations of a program stand in it.
 flat_none : (count : ℕ) → group_slots (replicate count None) ≡ replicate (2 * count) unset
@@ -41,7 +42,7 @@ take_unset : (n m : ℕ) → take n (replicate (n + m) unset) ≡ replicate n un
 take_unset zero m = refl
 take_unset (suc n) m = let e : suc n + m ≡ suc (n + m) = omega arith in ap (λ k. take (suc n) (replicate k unset)) e ∙ ap (λ l. unset ∷ l) (take_unset n m)
 
-length_unset : (n x : ℕ) → length (replicate n x) ≡ n
+pub length_unset : (n x : ℕ) → length (replicate n x) ≡ n
 length_unset zero x = refl
 length_unset (suc n) x = omega (arith, length_unset n x)
 
@@ -134,47 +135,43 @@ admitted true false k x y = refl
 admitted false f k x y = refl
 
 -- After j steps the run has ended, with the result of a search from these starts.
-record Finishes (r : RunParameters) (p : CorePattern) (whole anchored : Bool) (count : ℕ) (starts : List ℕ) (j : ℕ) : Type 0 where
+pub record Finishes (r : RunParameters) (p : CorePattern) (whole : Bool) (count : ℕ) (code : List Op) (many : ℕ) (starts : List ℕ) (j : ℕ) : Type 0 where
   pub ending : Ending
-  pub comes : run (program_of r.setting.has_member r.setting.fold whole anchored count p) (2 * count + slots_in p) r j ≡ Some ending
+  pub comes : run code many r j ≡ Some ending
   pub way : option_map (found_by_thread whole (2 * count)) ending.answer ≡ option_map (found_by_way r.find whole) (first_some (way_at r p count) starts)
   pub few : ending.backtracks ≤ choices_up_to r p count starts
   pub narrow : ending.peak ≤ choices_up_to r p count starts
+  pub backtracks : ending.backtracks ≡ (search_total r p whole count starts).backtracks
+  pub peak : ending.peak ≡ (search_total r p whole count starts).peak
+  pub overflow : ending.overflow ≡ (search_total r p whole count starts).overflow
+
+-- where the stack has been empty, the overflow says all
+on_ground : (a b : Option ℕ) → overflowed 0 a ≡ overflowed 0 b → a ≡ b
+on_ground a b e =
+    let no = lt_no most_branches 0 (omega arith) in
+    sym (ap (λ c. cond c (Some 0) a) no) ∙ e ∙ ap (λ c. cond c (Some 0) b) no
+
+-- A program with so many slots: after its opening stands a part that does what the pattern says, and then its closing.
+pub record IsMade (r : RunParameters) (p : CorePattern) (whole anchored : Bool) (count : ℕ) (code : List Op) (many : ℕ) : Type 1 where
+  pub keep : Keep count
+  pub own : ℕ
+  pub size : ℕ
+  pub leads : keep.lead ≡ 0
+  pub inside : 2 * count + own ≤ keep.top
+  pub begins : Ready keep (replicate many unset)
+  pub front_at : HasAt code 0 (opening r.setting.has_member r.setting.fold whole anchored)
+  pub last_at : HasAt code (length (opening r.setting.has_member r.setting.fold whole anchored) + size) (closing r.setting.has_member r.setting.fold whole)
+  pub body_does : Does code r whole count keep (length (opening r.setting.has_member r.setting.fold whole anchored))
+      (length (opening r.setting.has_member r.setting.fold whole anchored) + size) (2 * count) own false (ending r.setting (tail_bound r.find) p)
 
 -- A search that is anchored where its program is.
-module _ (r : RunParameters) (p : CorePattern) (whole anchored : Bool) (count : ℕ) (asked : RunRequirements r p whole count) (own : anchored ≡ true → r.find.anchored ≡ true) where
-  abbrev code : List Op
-  code = program_of r.setting.has_member r.setting.fold whole anchored count p
-
+module _ (r : RunParameters) (p : CorePattern) (whole anchored : Bool) (count : ℕ) (asked : RunRequirements r p whole count) (own : anchored ≡ true → r.find.anchored ≡ true)
+    (code : List Op) (many : ℕ) (made : IsMade r p whole anchored count code many) where
   abbrev front : List Op
   front = opening r.setting.has_member r.setting.fold whole anchored
 
-  abbrev body : List Op
-  body = closed_code r.setting.has_member r.setting.fold whole p (length front) (2 * count)
-
-  abbrev last : List Op
-  last = closing r.setting.has_member r.setting.fold whole
-
-  apart : whole ≡ true → 1 ≤ first_group_number whole
-  apart is = let e : first_group_number whole ≡ 1 = ap first_group_number is in omega (arith, e)
-
-  all_at : HasAt code 0 (front ++ (body ++ last))
-  unfolding program_of
-  all_at = has_all (front ++ (body ++ last)) []
-
-  body_at : HasAt code (length front) (body ++ last)
-  body_at = has_back code 0 (length front) front (body ++ last) (omega arith) all_at
-
-  last_at : HasAt code (length front + length body) last
-  last_at = has_back code (length front) (length front + length body) body last refl body_at
-
-  body_does : Does code r whole count (length front) (length front + length body) (2 * count) (slots_in p) false (ending r.setting (tail_bound r.find) p)
-  body_does =
-      runs_closed code r whole count asked.utf8 asked.small asked.groups (first_group_number whole) apart p (length front) (2 * count) false asked.writable asked.placed
-      (has_front code (length front) body last body_at)
-
   abbrev follow_end : SuccessContinuation
-  follow_end = end_follow r p whole count (first_group_number whole) asked.writable asked.small
+  follow_end = at_finish r p whole count
 
   -- what the slots of the groups hold at the end
   record Ended (v : MatchState) (n : List ℕ) : Type 0 where
@@ -205,17 +202,28 @@ module _ (r : RunParameters) (p : CorePattern) (whole anchored : Bool) (count : 
   -- an admitted way, and one that is not
   ends : (t : Thread) (v : MatchState) (stack : List Thread) (x : Continuation) → found_by_thread whole (2 * count) t ≡ found_by_way r.find whole v → Pops code r whole count stack x → (a : Bool) →
       Follows code r whole count stack (cond a (accepts t) fails)
-      (λ state. cond a (cond r.find.options.longest (x (holding state.limit (better state.best_match (found_by_way r.find whole v)))) (outcome_of (Some (found_by_way r.find whole v)))) (x state))
+      (λ at. cond a (cond r.find.options.longest (x (keeping (better at.held.best_match (found_by_way r.find whole v)) at)) (ended_with (Some (found_by_way r.find whole v)))) (x at))
   ends t v stack x e pops false = pops
   ends t v stack x e pops true = λ held.
       elim r.find.options.longest as (λ b. Within whole (2 * count) (length stack)
       (λ j. cond b (pop code (exec code r j) (record { best_match = farther held.best_match t; limit = held.limit }) stack) (Some (ended (Some t))))
-      (cond b (x (holding held.limit (better (option_map (found_by_thread whole (2 * count)) held.best_match) (found_by_way r.find whole v)))) (outcome_of (Some (found_by_way r.find whole v))))) [
-        | true ↦ subst (λ o. Within whole (2 * count) (length stack) (λ j. pop code (exec code r j) (record { best_match = farther held.best_match t; limit = held.limit }) stack) (x (holding held.limit o)))
+      (cond b (x (keeping (better (option_map (found_by_thread whole (2 * count)) held.best_match) (found_by_way r.find whole v)) (point code r whole count (length stack) held)))
+      (ended_with (Some (found_by_way r.find whole v))))) [
+        | true ↦ subst (λ o. Within whole (2 * count) (length stack) (λ j. pop code (exec code r j) (record { best_match = farther held.best_match t; limit = held.limit }) stack)
+            (x (keeping o (point code r whole count (length stack) held))))
             (farther_is held.best_match t (found_by_way r.find whole v) e) (pops (record { best_match = farther held.best_match t; limit = held.limit }))
         | false ↦ record {
           fuel = 0;
-          by = λ claim j le. record { ending = ended (Some t); comes = refl; answer = ap Some e; few = omega arith; narrow = omega arith };
+          by = λ claim j le. record {
+            ending = ended (Some t);
+            comes = refl;
+            answer = ap Some e;
+            few = omega arith;
+            narrow = omega arith;
+            backtracks = refl;
+            peak = refl;
+            overflow = refl;
+          };
         }
       ]
 
@@ -266,66 +274,84 @@ module _ (r : RunParameters) (p : CorePattern) (whole anchored : Bool) (count : 
   plain_end true pc at = plain_at code pc (op.save 1) at.0 refl refl
   plain_end false pc at = plain_at code pc op.finish at.0 refl refl
 
-  body_comes : (q : ℕ) (m : List ℕ) (rest : List Thread) (x : Continuation) → IsCharBoundary r.setting.text q → 2 * count + slots_in p ≤ length m →
+  body_comes : (q : ℕ) (m : List ℕ) (rest : List Thread) (x : Continuation) → IsCharBoundary r.setting.text q → Ready made.keep m →
       take (2 * count) m ≡ slots_of_way whole (entry_way count q) → Pops code r whole count rest x →
-      Comes code r whole count (thread (length front) q m ∷ rest) (folded follow_end x (trail_from r p whole count (first_group_number whole) asked.writable asked.small q))
-  body_comes q m rest x here room fits pops =
+      Comes code r whole count (thread (length front) q m ∷ rest) (from_start r p whole count q x)
+  body_comes q m rest x here ready fits pops =
       let w = entry_way count q in
       let sound : Sound r.setting.text count w = record { cuts = (here, (λ k a b e. absurd (none_set count k a b e)), here); many = length_none count } in
-      subst (λ f. Comes code r whole count (thread (length front) q m ∷ rest) f) (ending_trail r.setting (tail_bound r.find) p w follow_end x)
-      (body_does.by (2 * count) w m rest x follow_end (omega arith) (omega arith) room sound fits pops
+      made.body_does.by (2 * count) w m rest x follow_end (omega (arith, made.leads)) (omega arith) made.inside ready sound fits pops
       (record {
-        plain = plain_end whole (length front + length body) last_at;
+        plain = plain_end whole (length front + made.size) made.last_at;
         go = λ v n stack y on sound' fits' same above pops'.
-            close_comes whole refl (length front + length body) last_at v n stack y (omega (arith, same.long)) sound' fits' pops';
-      }))
+            close_comes whole refl (length front + made.size) made.last_at v n stack y (omega (arith, same.long, ready.long, made.inside)) sound' fits' pops';
+      })
 
   abbrev slots : List ℕ
-  slots = replicate (2 * count + slots_in p) unset
+  slots = replicate many unset
+
+  long_slots : 2 * count ≤ many
+  long_slots = omega (arith, made.inside, made.begins.long, length_unset many unset)
 
   slots_fit : take (2 * count) slots ≡ group_slots (no_pairs count)
-  slots_fit = take_unset (2 * count) (slots_in p) ∙ sym (flat_none count)
+  slots_fit =
+      let others : many ≡ 2 * count + (many - 2 * count) = omega (arith, long_slots) in
+      ap (λ n. take (2 * count) (replicate n unset)) others ∙ take_unset (2 * count) (many - 2 * count) ∙ sym (flat_none count)
 
   -- from the operation after the one that tries starts
   start_comes : (b : Bool) → whole ≡ b → (pc q : ℕ) (rest : List Thread) (x : Continuation) → HasAt code pc (cond b (op.save 0 ∷ []) []) → length front ≡ pc + length (cond b (op.save 0 ∷ []) []) →
       IsCharBoundary r.setting.text q → Pops code r whole count rest x →
-      Comes code r whole count (thread pc q slots ∷ rest) (folded follow_end x (trail_from r p whole count (first_group_number whole) asked.writable asked.small q))
+      Comes code r whole count (thread pc q slots ∷ rest) (from_start r p whole count q x)
   start_comes true is pc q rest x at e here pops =
       let t : Thread = thread pc q slots in
       let some = asked.groups is in
       let m = set slots 0 q in
-      let there : 0 < length slots = omega (arith, length_unset (2 * count + slots_in p) unset) in
+      let there : 0 < length slots = omega (arith, length_unset many unset, long_slots) in
       let fits : take (2 * count) m ≡ slots_of_way whole (entry_way count q) =
       take-set-lt (2 * count) slots 0 q (omega arith) ∙ ap (λ l. set l 0 q) slots_fit ∙ sym (ap (λ b. slots_of_way b (entry_way count q)) is) in
-      let next = body_comes q m rest x here (omega (arith, length-set slots 0 q, length_unset (2 * count + slots_in p) unset)) fits pops in
-      let continuation = folded follow_end x (trail_from r p whole count (first_group_number whole) asked.writable asked.small q) in
+      let below : 0 < 2 * count = omega arith in
+      let ready : Ready made.keep m = record {
+        long = omega (arith, length-set slots 0 q, made.begins.long);
+        holds = made.keep.still slots m made.begins.holds (made.keep.below slots 0 q below);
+      } in
+      let next = body_comes q m rest x here ready fits pops in
+      let continuation = from_start r p whole count q x in
       by_move code r whole count t rest (op.save 0) (goes (wrote 0 q t)) continuation at.0 here (with_slot_is 0 t _ there)
       (subst (λ n. Comes code r whole count (thread n q m ∷ rest) continuation) e next)
   start_comes false is pc q rest x at e here pops =
       let fits : take (2 * count) slots ≡ slots_of_way whole (entry_way count q) = slots_fit ∙ sym (ap (λ b. slots_of_way b (entry_way count q)) is) in
-      let next = body_comes q slots rest x here (omega (arith, length_unset (2 * count + slots_in p) unset)) fits pops in
+      let next = body_comes q slots rest x here made.begins fits pops in
       let same : length front ≡ pc = omega arith in
-      subst (λ n. Comes code r whole count (thread n q slots ∷ rest) (folded follow_end x (trail_from r p whole count (first_group_number whole) asked.writable asked.small q))) same next
+      subst (λ n. Comes code r whole count (thread n q slots ∷ rest) (from_start r p whole count q x)) same next
 
-  abbrev others : List ℕ → Continuation
-  others = after r p whole count (first_group_number whole) asked.writable asked.small
+  abbrev later_starts_end : List ℕ → Continuation
+  later_starts_end = others r p whole count
 
   abbrev outcome_from : ℕ → List ℕ → Continuation
-  outcome_from = search_outcome r p whole count (first_group_number whole) asked.writable asked.small
+  outcome_from = search_ends r p whole count
 
-  nothing_left : Pops code r whole count [] (others [])
+  nothing_left : Pops code r whole count [] (later_starts_end [])
   nothing_left held = record {
     fuel = 0;
-    by = λ claim j le. record { ending = ended held.best_match; comes = refl; answer = refl; few = omega arith; narrow = omega arith };
+    by = λ claim j le. record {
+      ending = ended held.best_match;
+      comes = refl;
+      answer = refl;
+      few = omega arith;
+      narrow = omega arith;
+      backtracks = refl;
+      peak = refl;
+      overflow = refl;
+    };
   }
 
   -- at a later start, where the one before has no way left
   later_pops : (q : ℕ) (qs : List ℕ) → slice_get code 0 ≡ Some op.split_unanchored → Comes code r whole count (thread 0 q slots ∷ []) (outcome_from q qs) →
-      Pops code r whole count (thread 0 q slots ∷ []) (others (q ∷ qs))
+      Pops code r whole count (thread 0 q slots ∷ []) (later_starts_end (q ∷ qs))
   later_pops q qs at comes held = by_best held.best_match held.limit
     where
       by_best : (best : Option Thread) (l : ℕ) → Within whole (2 * count) 1 (λ j. pop code (exec code r j) (record { best_match = best; limit = l }) (thread 0 q slots ∷ []))
-          (others (q ∷ qs) (state code r whole count (record { best_match = best; limit = l })))
+          (later_starts_end (q ∷ qs) (point code r whole count 1 (record { best_match = best; limit = l })))
       by_best None l =
           let c = comes (record { best_match = None; limit = l }) in
           record {
@@ -338,6 +364,9 @@ module _ (r : RunParameters) (p : CorePattern) (whole anchored : Bool) (count : 
                   answer = e.answer;
                   few = omega (arith, e.few);
                   narrow = omega (arith, e.narrow);
+                  backtracks = ap suc e.backtracks;
+                  peak = omega (arith, e.peak);
+                  overflow = overflow_above (option_map suc) 0 1 e.ending.overflow (outcome_from q qs (point code r whole count 0 (record { best_match = None; limit = l }))).overflow (omega arith) e.overflow;
                 };
           }
       by_best (Some best) l = record {
@@ -349,6 +378,9 @@ module _ (r : RunParameters) (p : CorePattern) (whole anchored : Bool) (count : 
           answer = refl;
           few = omega arith;
           narrow = omega arith;
+          backtracks = refl;
+          peak = refl;
+          overflow = refl;
         };
       }
 
@@ -366,7 +398,7 @@ module _ (r : RunParameters) (p : CorePattern) (whole anchored : Bool) (count : 
 
   split_at : anchored ≡ false → HasAt code 0 (op.split_unanchored ∷ cond whole (op.save 0 ∷ []) [])
   split_at is =
-      subst (λ b. HasAt code 0 (cond b [] (op.split_unanchored ∷ []) ++ cond whole (op.save 0 ∷ []) [])) is (has_front code 0 front (body ++ last) all_at)
+      subst (λ b. HasAt code 0 (cond b [] (op.split_unanchored ∷ []) ++ cond whole (op.save 0 ∷ []) [])) is made.front_at
 
   long_front : (b : Bool) → anchored ≡ b → length front ≡ length (cond b [] (op.split_unanchored ∷ [])) + length (cond whole (op.save 0 ∷ []) [])
   long_front b is =
@@ -378,7 +410,7 @@ module _ (r : RunParameters) (p : CorePattern) (whole anchored : Bool) (count : 
       let at = split_at is in
       by_move code r whole count (thread 0 q slots) [] op.split_unanchored (goes (thread 1 q slots)) (outcome_from q []) at.0 here
       (ap (starts_here (thread 0 q slots)) (next_is r q ∙ ap first_item e))
-      (start_comes whole refl 1 q [] (others []) at.1 (omega (arith, long_front false is)) here nothing_left)
+      (start_comes whole refl 1 q [] (later_starts_end []) at.1 (omega (arith, long_front false is)) here nothing_left)
   from_here is (next ∷ qs) q e here =
       let at = split_at is in
       let n = next_place q next qs e in
@@ -386,14 +418,14 @@ module _ (r : RunParameters) (p : CorePattern) (whole anchored : Bool) (count : 
       by_move code r whole count (thread 0 q slots) [] op.split_unanchored (forks (thread 1 q slots) (thread 0 next slots)) (outcome_from q (next ∷ qs)) at.0 here
       (ap (starts_here (thread 0 q slots)) (next_is r q ∙ ap first_item e))
       (forked code r whole count (thread 1 q slots) (thread 0 next slots) []
-      (folded follow_end (others (next ∷ qs)) (trail_from r p whole count (first_group_number whole) asked.writable asked.small q))
-      (start_comes whole refl 1 q (thread 0 next slots ∷ []) (others (next ∷ qs)) at.1 (omega (arith, long_front false is)) here (later_pops next qs at.0 later)))
+      (from_start r p whole count q (later_starts_end (next ∷ qs)))
+      (start_comes whole refl 1 q (thread 0 next slots ∷ []) (later_starts_end (next ∷ qs)) at.1 (omega (arith, long_front false is)) here (later_pops next qs at.0 later)))
 
   from_first : anchored ≡ true → (q : ℕ) → IsCharBoundary r.setting.text q → Comes code r whole count (thread 0 q slots ∷ []) (outcome_from q [])
   from_first is q here =
       let at : HasAt code 0 (cond whole (op.save 0 ∷ []) []) =
-      subst (λ b. HasAt code 0 (cond b [] (op.split_unanchored ∷ []) ++ cond whole (op.save 0 ∷ []) [])) is (has_front code 0 front (body ++ last) all_at) in
-      start_comes whole refl 0 q [] (others []) at (omega (arith, long_front true is)) here nothing_left
+      subst (λ b. HasAt code 0 (cond b [] (op.split_unanchored ∷ []) ++ cond whole (op.save 0 ∷ []) [])) is made.front_at in
+      start_comes whole refl 0 q [] (later_starts_end []) at (omega (arith, long_front true is)) here nothing_left
 
   -- the first start is a place, and the others come after it
   first_place : (q : ℕ) (qs : List ℕ) → tried r ≡ q ∷ qs → IsCharBoundary r.setting.text q × (following r q ≡ qs)
@@ -413,33 +445,49 @@ module _ (r : RunParameters) (p : CorePattern) (whole anchored : Bool) (count : 
       outer true d = absurd cc
       outer false d = inner r.find.anchored d
 
+  -- what the trails say of the outcome from there
+  says : (q : ℕ) (qs : List ℕ) → bounded (outcome_from q qs at_first) ≡ search_outcome r p whole count (first_group_number whole) asked.writable asked.small q qs at_first.held
+  says q qs = search_alike r p whole count (first_group_number whole) asked.writable asked.small q qs at_first
+
   -- the outcome of the starts that are tried
   over_from : (q : ℕ) (qs : List ℕ) → tried r ≡ q ∷ qs → Comes code r whole count (thread 0 q slots ∷ []) (outcome_from q qs) →
-      (n : ℕ) × ((j : ℕ) → n ≤ j → Finishes r p whole anchored count (tried r) j)
+      (n : ℕ) × ((j : ℕ) → n ≤ j → Finishes r p whole count code many (tried r) j)
   over_from q qs e comes =
-      let c = comes initial_run_state in (
+      let c = comes initial_run_state in
+      let claimed : (outcome_from q qs at_first).claimed ≡ true =
+      ap (λ t. t.claimed) (says q qs) ∙ search_claims r p whole count (first_group_number whole) asked.writable asked.small q qs at_first.held in
+      let answer : (outcome_from q qs at_first).answer ≡ option_map (found_by_way r.find whole) (first_some (way_at r p count) (q ∷ qs)) =
+      ap (λ t. t.answer) (says q qs) ∙ search_answer r p whole count (first_group_number whole) asked.writable asked.small unset q qs in
+      let opened : (outcome_from q qs at_first).branches ≤ choices_up_to r p count (q ∷ qs) =
+      omega (arith, ap (λ t. t.branches) (says q qs), search_opened r p whole count (first_group_number whole) asked.writable asked.small unset q qs) in
+      let total : search_total r p whole count (tried r) ≡ outcome_from q qs at_first = ap (search_total r p whole count) e in (
         c.fuel,
         λ j le.
-            let m = c.by (search_claims r p whole count (first_group_number whole) asked.writable asked.small q qs (state code r whole count initial_run_state)) j le in
+            let m = c.by claimed j le in
             record {
               ending = m.ending;
-              comes = ap (λ (l : List ℕ). elim (first_item l) as (λ o. Option Ending) [ None ↦ Some (ended None) | Some s ↦ exec code r j initial_run_state (first_thread (2 * count + slots_in p) s ∷ []) ]) e ∙ m.comes;
-              way = m.answer ∙ search_answer r p whole count (first_group_number whole) asked.writable asked.small unset q qs
-                  ∙ ap (λ l. option_map (found_by_way r.find whole) (first_some (way_at r p count) l)) (sym e);
-              few = omega (arith, m.few, search_opened r p whole count (first_group_number whole) asked.writable asked.small unset q qs, ap (choices_up_to r p count) e);
-              narrow = omega (arith, m.narrow, search_opened r p whole count (first_group_number whole) asked.writable asked.small unset q qs, ap (choices_up_to r p count) e);
+              comes = ap (λ (l : List ℕ). elim (first_item l) as (λ o. Option Ending) [ None ↦ Some (ended None) | Some s ↦ exec code r j initial_run_state (first_thread many s ∷ []) ]) e ∙ m.comes;
+              way = m.answer ∙ answer ∙ ap (λ l. option_map (found_by_way r.find whole) (first_some (way_at r p count) l)) (sym e);
+              few = omega (arith, m.few, opened, ap (choices_up_to r p count) e);
+              narrow = omega (arith, m.narrow, opened, ap (choices_up_to r p count) e);
+              backtracks = m.backtracks ∙ ap (λ t. t.backtracks) (sym total);
+              peak = omega (arith, m.peak, ap (λ t. t.peak) total);
+              overflow = on_ground m.ending.overflow (outcome_from q qs at_first).overflow m.overflow ∙ ap (λ t. t.overflow) (sym total);
             },
       )
 
-  over_none : tried r ≡ [] → (n : ℕ) × ((j : ℕ) → n ≤ j → Finishes r p whole anchored count (tried r) j)
+  over_none : tried r ≡ [] → (n : ℕ) × ((j : ℕ) → n ≤ j → Finishes r p whole count code many (tried r) j)
   over_none e = (
     0,
     λ j le. record {
       ending = ended None;
-      comes = ap (λ (l : List ℕ). elim (first_item l) as (λ o. Option Ending) [ None ↦ Some (ended None) | Some s ↦ exec code r j initial_run_state (first_thread (2 * count + slots_in p) s ∷ []) ]) e;
+      comes = ap (λ (l : List ℕ). elim (first_item l) as (λ o. Option Ending) [ None ↦ Some (ended None) | Some s ↦ exec code r j initial_run_state (first_thread many s ∷ []) ]) e;
       way = ap (λ l. option_map (found_by_way r.find whole) (first_some (way_at r p count) l)) (sym e);
       few = omega arith;
       narrow = omega arith;
+      backtracks = ap (λ l. (search_total r p whole count l).backtracks) (sym e);
+      peak = ap (λ l. (search_total r p whole count l).peak) (sym e);
+      overflow = ap (λ l. (search_total r p whole count l).overflow) (sym e);
     },
   )
 
@@ -447,7 +495,7 @@ module _ (r : RunParameters) (p : CorePattern) (whole anchored : Bool) (count : 
   alone : anchored ≡ true → (q : ℕ) → following r q ≡ []
   alone is q = ap (λ (b : Bool). cond b [] (filter r.may_start (boundaries r.setting.text (q + 1) r.find.stop))) (own is)
 
-  over_some : (q : ℕ) (qs : List ℕ) → tried r ≡ q ∷ qs → (b : Bool) → anchored ≡ b → (n : ℕ) × ((j : ℕ) → n ≤ j → Finishes r p whole anchored count (tried r) j)
+  over_some : (q : ℕ) (qs : List ℕ) → tried r ≡ q ∷ qs → (b : Bool) → anchored ≡ b → (n : ℕ) × ((j : ℕ) → n ≤ j → Finishes r p whole count code many (tried r) j)
   over_some q qs e true is =
       let f = first_place q qs e in
       let none : qs ≡ [] = sym f.1 ∙ alone is q in
@@ -456,13 +504,13 @@ module _ (r : RunParameters) (p : CorePattern) (whole anchored : Bool) (count : 
       let f = first_place q qs e in
       over_from q qs e (from_here is qs q f.1 f.0)
 
-  over_starts : (l : List ℕ) → tried r ≡ l → (n : ℕ) × ((j : ℕ) → n ≤ j → Finishes r p whole anchored count (tried r) j)
+  over_starts : (l : List ℕ) → tried r ≡ l → (n : ℕ) × ((j : ℕ) → n ≤ j → Finishes r p whole count code many (tried r) j)
   over_starts [] e = over_none e
   over_starts (q ∷ qs) e = over_some q qs e anchored refl
 
 module _ (r : RunParameters) (p : CorePattern) (whole anchored : Bool) (count : ℕ) (asked : RunRequirements r p whole count) where
   -- the anchored run has the same requirements
-  asked_anchored : RunRequirements (anchored_by anchored r) p whole count
+  pub asked_anchored : RunRequirements (anchored_by anchored r) p whole count
   asked_anchored = record {
     utf8 = asked.utf8;
     small = asked.small;
@@ -474,11 +522,55 @@ module _ (r : RunParameters) (p : CorePattern) (whole anchored : Bool) (count : 
     placed = asked.placed;
   }
 
-  finished : (j : ℕ) → Finishes (anchored_by anchored r) p whole anchored count (attempted_starts anchored r) j → Terminates r p whole anchored count j
-  finished j f = record { ending = f.ending; comes = f.comes; answers = record { way = f.way; few = f.few; narrow = f.narrow } }
+  -- a program that is made of the pattern answers its search
+  pub made_answers : (code : List Op) (many : ℕ) → IsMade (anchored_by anchored r) p whole anchored count code many →
+      (n : ℕ) × ((j : ℕ) → n ≤ j → Finishes (anchored_by anchored r) p whole count code many (attempted_starts anchored r) j)
+  made_answers code many made =
+      over_starts (anchored_by anchored r) p whole anchored count asked_anchored (λ is. ap (λ (b : Bool). b || r.find.anchored) is) code many made
+      (tried (anchored_by anchored r)) refl
+
+-- the number of the first group leaves room for a whole
+pub first_apart : (whole : Bool) → whole ≡ true → 1 ≤ first_group_number whole
+first_apart whole is = let e : first_group_number whole ≡ 1 = ap first_group_number is in omega (arith, e)
+
+-- the program with its calls written out
+module _ (r : RunParameters) (p : CorePattern) (whole anchored : Bool) (count : ℕ) (asked : RunRequirements r p whole count) where
+  abbrev written : List Op
+  written = program_of r.setting.has_member r.setting.fold whole anchored count p
+
+  abbrev begin : List Op
+  begin = opening r.setting.has_member r.setting.fold whole anchored
+
+  abbrev body : List Op
+  body = closed_code r.setting.has_member r.setting.fold whole written_out p (length begin) (2 * count)
+
+  abbrev last : List Op
+  last = closing r.setting.has_member r.setting.fold whole
+
+  all_at : HasAt written 0 (begin ++ (body ++ last))
+  unfolding program_of code_of
+  all_at = has_all (begin ++ (body ++ last)) []
+
+  pub written_made : IsMade r p whole anchored count written (2 * count + slots_in p)
+  written_made =
+      let body_at : HasAt written (length begin) (body ++ last) = has_back written 0 (length begin) begin (body ++ last) (omega arith) all_at in
+      record {
+        keep = lone count (slots_in p);
+        own = slots_in p;
+        size = length body;
+        leads = refl;
+        inside = omega arith;
+        begins = record { long = omega (arith, length_unset (2 * count + slots_in p) unset); holds = tt };
+        front_at = has_front written 0 begin (body ++ last) all_at;
+        last_at = has_back written (length begin) (length begin + length body) body last refl body_at;
+        body_does = runs_closed written r whole count (lone count (slots_in p)) asked.utf8 asked.small asked.groups written_out (first_group_number whole) (first_apart whole)
+            p (length begin) (2 * count) false asked.writable asked.placed
+            (calls_written_out written r whole count (lone count (slots_in p)) asked.utf8 asked.small asked.groups (first_group_number whole) (first_apart whole) p)
+            (has_front written (length begin) body last body_at);
+      }
 
 pub programs_answer : ProgramsAnswerSearches
 programs_answer r p whole anchored count asked =
-    let over = over_starts (anchored_by anchored r) p whole anchored count (asked_anchored r p whole anchored count asked)
-    (λ is. ap (λ (b : Bool). b || r.find.anchored) is) (tried (anchored_by anchored r)) refl in
-    (over.0, λ j le. finished r p whole anchored count asked j (over.1 j le))
+    let over = made_answers r p whole anchored count asked (program_of r.setting.has_member r.setting.fold whole anchored count p) (2 * count + slots_in p)
+    (written_made (anchored_by anchored r) p whole anchored count (asked_anchored r p whole anchored count asked)) in
+    (over.0, λ j le. (let f = over.1 j le in record { ending = f.ending; comes = f.comes; answers = record { way = f.way; few = f.few; narrow = f.narrow } }))

@@ -1,1 +1,3 @@
 pub mod ProgramLaws
+pub mod KeptLaws
+pub mod LayoutLaws
