@@ -221,7 +221,7 @@ impl RegexBuilder {
     }
 
     /// How many instructions a program may have. A pattern whose program is longer is refused with `PatternTooComplex`; a plain
-    /// pattern has no program. Default: no cap.
+    /// pattern has no program. Calls count as what they write. Default: no cap.
     ///
     /// ```
     /// let mut builder = RegexBuilder::new(alloc, r"(a\g<1>?b)")?;

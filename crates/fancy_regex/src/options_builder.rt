@@ -200,7 +200,7 @@ impl RegexOptionsBuilder {
     }
 
     /// How many instructions a program may have. A pattern whose program is longer is refused with `PatternTooComplex`; a plain
-    /// pattern has no program. Default: no cap.
+    /// pattern has no program. Calls count as what they write. Default: no cap.
     ///
     /// ```
     /// let mut options = RegexOptionsBuilder::new();

@@ -1,7 +1,7 @@
 -- What the compiler says of a program.
-use Rattle.std.specs.Prelude.{◌≡◌, ℕ, ◌+◌, ◌*◌, ◌<◌, ◌≤◌, Bool, true, false, not, List, length, Option}
+use Rattle.std.specs.Prelude.{◌≡◌, ℕ, ◌+◌, ◌*◌, ◌<◌, ◌≤◌, Bool, true, false, not, All, List, length, Option, None, sum_by, ◌⊎◌}
 use Rattle.fancy_regex_tree.specs.Tree.{Tree}
-use Rattle.fancy_regex_meaning.specs.Choices.{program_nodes}
+use Rattle.fancy_regex_meaning.specs.Choices.{nodes_with, program_nodes}
 use Rattle.fancy_regex_meaning.specs.Groups.{Pattern}
 use Rattle.fancy_regex_class.specs.Classes.{in_class, folded}
 use Rattle.fancy_regex_desugar.specs.CorePatterns.{CorePattern}
@@ -14,8 +14,10 @@ use Rattle.fancy_regex_analysis.specs.NodeErrors.{some_node, shows}
 use Rattle.fancy_regex_info.specs.Views.{pattern_in}
 use Rattle.fancy_regex_info.specs.declared.error.CompileError.{CompileError}
 use Rattle.fancy_regex_info.specs.declared.error.CompileError.TheVariants.{InvalidBackref}
+use Rattle.fancy_regex_program.specs.Assembled.{Body, IsAssembled, IsBodyOf, AreDistinct}
 use Rattle.fancy_regex_program.specs.Caps.{IsWithinCap, IsPastCap}
-use Rattle.fancy_regex_program.specs.Code.{slots_in, program_of}
+use Rattle.fancy_regex_program.specs.Code.{Layout, slots_in, program_of}
+use Rattle.fancy_regex_program.specs.Layouts.{CallsStay}
 use Rattle.fancy_regex_program.specs.Ops.{ops_of}
 use Rattle.fancy_regex_program.specs.Shapes.{IsAllowed, IsWritable}
 use Rattle.fancy_regex_program.specs.declared.insn.Insn.{Insn}
@@ -32,11 +34,26 @@ pub record IsWritableIfAllowed (unicode whole : Bool) (groups : ℕ) (p : CorePa
   pub first : ℕ
   pub writable : IsAllowed unicode true p → IsWritable first groups p
 
+-- These are the instructions of a pattern with so many groups, and their slots, where calls stay calls: the main program, and behind it
+-- bodies of called groups, one of each, with their returns, and an end. Each call leads to the body of its group.
+pub record KeepsCalls (unicode whole anchored : Bool) (groups : ℕ) (pattern : Pattern) (insns : List Insn) (slots : ℕ) : Type 0 where
+  pub layout : Layout
+  pub bodies : List Body
+  pub code : IsAssembled (in_class unicode) (folded unicode) whole layout anchored groups (core_pattern_of pattern) bodies (ops_of insns) slots
+  pub calls : CallsStay layout (core_pattern_of pattern)
+  pub each : All (IsBodyOf layout pattern.groups) bodies
+  pub distinct : AreDistinct bodies
+
+-- These are the instructions of a pattern, and their slots: its calls are written out, or they stay calls.
+abbrev pub IsCodeOf : Bool → Bool → Bool → ℕ → Pattern → List Insn → ℕ → Type 0
+IsCodeOf unicode whole anchored groups pattern insns slots =
+    IsWhole unicode whole anchored groups (core_pattern_of pattern) insns slots
+    ⊎ KeepsCalls unicode whole anchored groups pattern insns slots
+
 -- The program is that of the pattern, and begins at the first start alone where it is anchored.
 pub record IsProgramOf (prog : Prog) (pattern : Pattern) (anchored : Bool) : Type 0 where
   pub anchored_is : prog.anchored ≡ anchored
-  pub body : ops_of prog.body.items ≡ program_of (in_class prog.unicode) (folded prog.unicode) prog.whole anchored prog.groups (core_pattern_of pattern)
-  pub slots : prog.slots ≡ 2 * prog.groups + slots_in (core_pattern_of pattern)
+  pub code : IsCodeOf prog.unicode prog.whole anchored prog.groups pattern prog.body.items prog.slots
   pub groups : prog.groups ≡ length pattern.groups
 
 -- Each back reference and each condition of the tree goes to a group.
@@ -70,7 +87,22 @@ abbrev pub IsTooLong : Option ℕ → InfoTree → CompileError → Type 0
 IsTooLong most x e = (explicit : Bool) (t : Tree) → x ≡ analysis explicit t → is_too_complex e ≡ true →
     IsPastCap most (16 * (program_nodes (pattern_in explicit t) + 1))
 
+-- the nodes of the tree, and of the bodies of all groups with a return each; a call is one node
+abbrev pub nodes_with_calls : Pattern → ℕ
+nodes_with_calls pattern = nodes_with (λ k. 1) pattern.tree + sum_by (λ t. 1 + nodes_with (λ k. 1) t) pattern.groups
+
+-- So many instructions are few for the pattern: at most sixteen for each node with its calls written out, and sixteen more. Where that
+-- is above `most`, they may also be sixteen for each node with calls that stay, and sixteen more.
+abbrev pub AreFew : ℕ → ℕ → Pattern → Type 0
+AreFew most insns pattern =
+    let written_out = 16 * (program_nodes pattern + 1) in
+    (insns ≤ written_out) ⊎ ((most < written_out) × (insns ≤ 16 * (nodes_with_calls pattern + 1)))
+
 -- Where this is what the analysis says of a tree, the program has no more instructions than that.
-abbrev pub IsShort : Prog → InfoTree → Type 0
-IsShort prog x = (explicit : Bool) (t : Tree) → x ≡ analysis explicit t →
-    length prog.body.items ≤ 16 * (program_nodes (pattern_in explicit t) + 1)
+abbrev pub IsShort : ℕ → Prog → InfoTree → Type 0
+IsShort most prog x = (explicit : Bool) (t : Tree) → x ≡ analysis explicit t → AreFew most (length prog.body.items) (pattern_in explicit t)
+
+-- Where a cap is set, and this is what the analysis says of a tree, the calls of its pattern are written out.
+abbrev pub IsWrittenOutUnder : Option ℕ → Prog → InfoTree → Type 0
+IsWrittenOutUnder cap prog x = (cap ≡ None → ⊥) → (explicit : Bool) (t : Tree) → x ≡ analysis explicit t →
+    IsWhole prog.unicode prog.whole prog.anchored prog.groups (core_pattern_of (pattern_in explicit t)) prog.body.items prog.slots

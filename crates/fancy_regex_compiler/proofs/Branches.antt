@@ -7,7 +7,7 @@ use Rattle.fancy_regex_class.specs.Classes.{in_class, folded}
 use Rattle.fancy_regex_desugar.specs.CorePatterns.{CorePattern, alt, conditional}
 use Rattle.fancy_regex_program.specs.Ops as op
 use Rattle.fancy_regex_program.specs.Ops.{Op}
-use Rattle.fancy_regex_program.specs.Code.{waits, flushed, slots_in, code_of}
+use Rattle.fancy_regex_program.specs.Code.{Layout, waits_with, flushed, slots_with, code_with}
 use Rattle.fancy_regex_compiler.specs.Writing.{Draft, with_op, closed_draft, added, patched, with_pat, with_choice}
 use Rattle.fancy_regex_compiler.proofs.Drafts.{same_draft, length_with_op}
 
@@ -26,12 +26,12 @@ flat_front : (xs f : List Op) (o i : Op) (t : List Op) (e : Op) (y : List Op) (j
     ((xs ++ f) ++ o ∷ []) ++ i ∷ ((t ++ e ∷ y) ++ j ∷ n) ≡ xs ++ (f ++ (o ∷ i ∷ (t ++ e ∷ (y ++ j ∷ n))))
 flat_front xs f o i t e y j n = simp append_assoc
 
-module _ (u w : Bool) where
+module _ (layout : Layout) (u w : Bool) where
   abbrev C : CorePattern → Text → ℕ → ℕ → List Op
-  C = code_of (in_class u) (folded u) w
+  C = code_with (in_class u) (folded u) w layout
 
   abbrev pub P : CorePattern → ℕ → Draft → Draft
-  P = with_pat u w
+  P = with_pat layout u w
 
   -- a conditional, with its split and its jump still holes
   module _ (c a b : CorePattern) (slot : ℕ) (d : Draft) where
@@ -45,22 +45,22 @@ module _ (u w : Bool) where
     tested = with_op (op.end_atomic slot) (closed_draft (P c (slot + 1) split_there))
 
     abbrev pub chosen : Draft
-    chosen = closed_draft (P a (slot + 1 + slots_in c) tested)
+    chosen = closed_draft (P a (slot + 1 + slots_with layout c) tested)
 
     abbrev pub jump_there : Draft
     jump_there = with_op (op.jump 0) chosen
 
     abbrev pub all_there : Draft
-    all_there = closed_draft (P b (slot + 1 + slots_in c + slots_in a) jump_there)
+    all_there = closed_draft (P b (slot + 1 + slots_with layout c + slots_with layout a) jump_there)
 
     abbrev test : ℕ → List Op
-    test k = C c [] k (slot + 1) ++ flushed (waits c [])
+    test k = C c [] k (slot + 1) ++ flushed (waits_with layout c [])
 
     abbrev yes : ℕ → List Op
-    yes k = C a [] k (slot + 1 + slots_in c) ++ flushed (waits a [])
+    yes k = C a [] k (slot + 1 + slots_with layout c) ++ flushed (waits_with layout a [])
 
     abbrev no : ℕ → List Op
-    no k = C b [] k (slot + 1 + slots_in c + slots_in a) ++ flushed (waits b [])
+    no k = C b [] k (slot + 1 + slots_with layout c + slots_with layout a) ++ flushed (waits_with layout b [])
 
     abbrev pc : ℕ
     pc = length d.ops + length (flushed d.text)
@@ -70,13 +70,13 @@ module _ (u w : Bool) where
     length_begun = omega (arith, length-append (d.ops ++ flushed d.text) (op.begin_atomic slot ∷ []), length-append d.ops (flushed d.text))
 
     length_closed : (p : CorePattern) (s : ℕ) (e : Draft) → e.text ≡ [] →
-        length (closed_draft (P p s e)).ops ≡ length e.ops + length (C p [] (length e.ops) s ++ flushed (waits p []))
+        length (closed_draft (P p s e)).ops ≡ length e.ops + length (C p [] (length e.ops) s ++ flushed (waits_with layout p []))
     unfolding with_pat closed_draft
     length_closed p s e none =
         let x = C p e.text (length e.ops) s in
-        let y = flushed (waits p e.text) in
-        let same : length (x ++ y) ≡ length (C p [] (length e.ops) s ++ flushed (waits p [])) =
-        ap (λ t. length (C p t (length e.ops) s ++ flushed (waits p t))) none in
+        let y = flushed (waits_with layout p e.text) in
+        let same : length (x ++ y) ≡ length (C p [] (length e.ops) s ++ flushed (waits_with layout p [])) =
+        ap (λ t. length (C p t (length e.ops) s ++ flushed (waits_with layout p t))) none in
         omega (arith, length-append (e.ops ++ x) y, length-append e.ops x, length-append x y, same)
 
     at_test : length split_there.ops ≡ pc + 2
@@ -95,7 +95,7 @@ module _ (u w : Bool) where
     unfolding with_op closed_draft
     at_jump =
         let same : length (yes (length tested.ops)) ≡ length (yes two) = ap (λ k. length (yes k)) at_yes in
-        omega (arith, at_yes, same, length_closed a (slot + 1 + slots_in c) tested refl)
+        omega (arith, at_yes, same, length_closed a (slot + 1 + slots_with layout c) tested refl)
 
     abbrev three : ℕ
     three = pc + 4 + length (test (pc + 2)) + length (yes two)
@@ -107,7 +107,7 @@ module _ (u w : Bool) where
     unfolding with_op closed_draft
     at_end =
         let same : length (no (length jump_there.ops)) ≡ length (no three) = ap (λ k. length (no k)) at_no in
-        omega (arith, at_no, same, length_closed b (slot + 1 + slots_in c + slots_in a) jump_there refl)
+        omega (arith, at_no, same, length_closed b (slot + 1 + slots_with layout c + slots_with layout a) jump_there refl)
 
     abbrev listed : ℕ → ℕ → ℕ → ℕ → List Op
     listed k1 k2 k3 k4 =
@@ -135,9 +135,9 @@ module _ (u w : Bool) where
           ap (λ k. length (test k)) at_test,
         ) in
         ap (λ l. set (set l (length begun.ops) i) (length chosen.ops) j)
-        (flat_three begun.ops (op.split 0 0) (C c [] (length split_there.ops) (slot + 1)) (flushed (waits c [])) e
-        (C a [] (length tested.ops) (slot + 1 + slots_in c)) (flushed (waits a [])) (op.jump 0)
-        (C b [] (length jump_there.ops) (slot + 1 + slots_in c + slots_in a)) (flushed (waits b [])))
+        (flat_three begun.ops (op.split 0 0) (C c [] (length split_there.ops) (slot + 1)) (flushed (waits_with layout c [])) e
+        (C a [] (length tested.ops) (slot + 1 + slots_with layout c)) (flushed (waits_with layout a [])) (op.jump 0)
+        (C b [] (length jump_there.ops) (slot + 1 + slots_with layout c + slots_with layout a)) (flushed (waits_with layout b [])))
         ∙ ap (λ k. set (set (begun.ops ++ op.split 0 0 ∷ ((t ++ e ∷ y) ++ op.jump 0 ∷ n)) (length begun.ops) i) k j) there
         ∙ two_writes begun.ops (t ++ e ∷ y) n (op.split 0 0) (op.jump 0) i j
         ∙ flat_front d.ops (flushed d.text) (op.begin_atomic slot) i t e y j n
@@ -145,7 +145,7 @@ module _ (u w : Bool) where
     pub pat_conditional : P (conditional c a b) slot d
         ≡ patched (length chosen.ops) (op.jump (length all_there.ops))
         (patched (length begun.ops) (op.split (length split_there.ops) (length jump_there.ops)) all_there)
-    unfolding with_pat code_of patched closed_draft
+    unfolding with_pat code_with patched closed_draft
     pat_conditional =
         let four = three + length (no three) in
         same_draft
@@ -159,7 +159,7 @@ module _ (u w : Bool) where
   bare xs = record { ops = xs; text = [] }
 
   abbrev choice_body : CorePattern → ℕ → ℕ → List Op
-  choice_body p slot n = C p [] (n + 1) slot ++ flushed (waits p [])
+  choice_body p slot n = C p [] (n + 1) slot ++ flushed (waits_with layout p [])
 
   -- the operations of a branch with its jump
   abbrev choice_ops : ℕ → CorePattern → ℕ → ℕ → List Op
@@ -169,14 +169,14 @@ module _ (u w : Bool) where
   flat_choice : (xs : List Op) (x : Op) (c g : List Op) (j : Op) → (((xs ++ x ∷ []) ++ c) ++ g) ++ j ∷ [] ≡ xs ++ x ∷ ((c ++ g) ++ j ∷ [])
   flat_choice xs x c g j = simp append_assoc
 
-  choice_is : (end : ℕ) (p : CorePattern) (slot : ℕ) (xs : List Op) → with_choice u w end p slot (bare xs) ≡ bare (xs ++ choice_ops end p slot (length xs))
+  choice_is : (end : ℕ) (p : CorePattern) (slot : ℕ) (xs : List Op) → with_choice layout u w end p slot (bare xs) ≡ bare (xs ++ choice_ops end p slot (length xs))
   unfolding with_op closed_draft patched with_pat
   choice_is end p slot xs =
       let first = with_op (op.split 0 0) (bare xs) in
       let body = closed_draft (P p slot first) in
       let all = with_op (op.jump end) body in
       let c = C p [] (length first.ops) slot in
-      let g = flushed (waits p []) in
+      let g = flushed (waits_with layout p []) in
       let n = length xs in
       let one : length first.ops ≡ n + 1 = length-append xs (op.split 0 0 ∷ []) in
       let two : length all.ops ≡ n + 2 + length (choice_body p slot n) =
@@ -201,22 +201,22 @@ module _ (u w : Bool) where
 
   -- two branches, where the jump of the first leads past the second
   pub pat_alt : (a b : CorePattern) (slot end : ℕ) (d : Draft) →
-      end ≡ length (closed_draft (P b (slot + slots_in a) (with_choice u w end a slot (closed_draft d)))).ops →
-      P (alt a b) slot d ≡ closed_draft (P b (slot + slots_in a) (with_choice u w end a slot (closed_draft d)))
-  unfolding with_pat code_of closed_draft
+      end ≡ length (closed_draft (P b (slot + slots_with layout a) (with_choice layout u w end a slot (closed_draft d)))).ops →
+      P (alt a b) slot d ≡ closed_draft (P b (slot + slots_with layout a) (with_choice layout u w end a slot (closed_draft d)))
+  unfolding with_pat code_with closed_draft
   pat_alt a b slot end d is =
       let xs = d.ops ++ flushed d.text in
       let n = length d.ops + length (flushed d.text) in
       let long : length xs ≡ n = length-append d.ops (flushed d.text) in
-      let g = flushed (waits b []) in
-      let s = slot + slots_in a in
+      let g = flushed (waits_with layout b []) in
+      let s = slot + slots_with layout a in
       let first = choice_body a slot n in
       let m = n + 2 + length first in
       let second = C b [] m s ++ g in
       let head = choice_ops end a slot (length xs) in
       let ys = xs ++ head in
       let there : length ys ≡ m = omega (arith, long, length-append xs head, length-append (choice_body a slot (length xs)) (op.jump end ∷ []), ap (λ k. length (choice_body a slot k)) long) in
-      let made : closed_draft (P b s (with_choice u w end a slot (closed_draft d))) ≡ closed_draft (P b s (bare ys)) =
+      let made : closed_draft (P b s (with_choice layout u w end a slot (closed_draft d))) ≡ closed_draft (P b s (bare ys)) =
       ap (λ e. closed_draft (P b s e)) (choice_is end a slot xs) in
       let total : m + length second ≡ end =
       omega (
@@ -276,8 +276,8 @@ module _ (u w : Bool) where
 
   -- A branch more, whose jump is patched with those before it.
   pub choice_goes_on : (end : ℕ) (js : List ℕ) (xs : List Op) (p : CorePattern) (slot j : ℕ) → AllBelow (length xs) js →
-      j + 1 ≡ length (with_choice u w 0 p slot (bare xs)).ops →
-      set_right end (js ++ j ∷ []) (with_choice u w 0 p slot (bare xs)) ≡ with_choice u w end p slot (set_right end js (bare xs))
+      j + 1 ≡ length (with_choice layout u w 0 p slot (bare xs)).ops →
+      set_right end (js ++ j ∷ []) (with_choice layout u w 0 p slot (bare xs)) ≡ with_choice layout u w end p slot (set_right end js (bare xs))
   unfolding patched
   choice_goes_on end js xs p slot j below is =
       let n = length xs in
@@ -295,7 +295,7 @@ module _ (u w : Bool) where
         length-append ys front,
         long,
       ) in
-      set_right_more end js j (with_choice u w 0 p slot (bare xs))
+      set_right_more end js j (with_choice layout u w 0 p slot (bare xs))
       ∙ ap (λ e. patched j (op.jump end) (set_right end js e)) (choice_is 0 p slot xs)
       ∙ ap (patched j (op.jump end)) (set_bare end js (xs ++ choice_ops 0 p slot n) ∙ ap bare (set_front end js xs (choice_ops 0 p slot n) below))
       ∙ same_draft
@@ -306,4 +306,4 @@ module _ (u w : Bool) where
       refl
       ∙ ap (λ k. bare (ys ++ choice_ops end p slot k)) (sym long)
       ∙ sym (choice_is end p slot ys)
-      ∙ ap (with_choice u w end p slot) (sym (set_bare end js xs))
+      ∙ ap (with_choice layout u w end p slot) (sym (set_bare end js xs))

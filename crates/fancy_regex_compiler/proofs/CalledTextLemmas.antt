@@ -17,14 +17,17 @@ use Rattle.fancy_regex_desugar.specs.Unfolded.{Written, cat_all, repeated}
 use Rattle.fancy_regex_info.specs.Infos.{InfoTree, info_of}
 use Rattle.fancy_regex_info.specs.declared.info.Info.{Info}
 use Rattle.fancy_regex_info.specs.declared.info.Info.TheViews.{out-Info}
-use Rattle.fancy_regex_program.specs.Code.{slots_in}
-use Rattle.fancy_regex_program.specs.Shapes.{IsAllowed}
+use Rattle.fancy_regex_program.specs.Code.{Layout, written_out, slots_in}
+use Rattle.fancy_regex_compiler.specs.Needs.{IsAllowedUnder}
+use Rattle.fancy_regex_compiler.specs.Extents.{room_with}
 use Rattle.fancy_regex_compiler.specs.CalledTexts.{is_silent, IsText, WritesText, IsFree, AreTexts}
 use Rattle.fancy_regex_compiler.specs.Known.{child, front_of, info_written, info_call}
 use Rattle.fancy_regex_compiler.specs.Writing.{Draft, draft_of, with_pat, Wrote}
 use Rattle.fancy_regex_compiler.specs.declared.emitter.Emitter.{Emitter}
+use Rattle.fancy_regex_compiler.specs.declared.emitter.Need.{Need}
 use Rattle.fancy_regex_compiler.proofs.Drafts.{pat_nothing, pat_cat, pat_called}
 use Rattle.fancy_regex_compiler.proofs.NodeLemmas.{front_leaf, front_concat, front_call}
+use Rattle.fancy_regex_compiler.proofs.RoomLemmas.{room_written_out}
 use Rattle.fancy_regex_compiler.proofs.RowLemmas.{call_opens}
 use Rattle.fancy_regex_compiler.proofs.TreeLemmas.{tree_literal, tree_repeat}
 
@@ -38,27 +41,37 @@ silent_slots (cat a b) s = let both = and_parts (is_silent a) (is_silent b) s in
 silent_slots (called k a) s = silent_slots a s
 silent_slots _ s = never s
 
-silent_draft : (u w : Bool) (p : CorePattern) (slot : ℕ) (d : Draft) → is_silent p ≡ true → with_pat u w p slot d ≡ d
-silent_draft u w nothing slot d s = pat_nothing u w slot d
+silent_draft : (u w : Bool) (p : CorePattern) (slot : ℕ) (d : Draft) → is_silent p ≡ true → with_pat written_out u w p slot d ≡ d
+silent_draft u w nothing slot d s = pat_nothing written_out u w slot d
 silent_draft u w (cat a b) slot d s =
     let both = and_parts (is_silent a) (is_silent b) s in
-    pat_cat u w a b slot d ∙ ap (with_pat u w b (slot + slots_in a)) (silent_draft u w a slot d both.0) ∙ silent_draft u w b (slot + slots_in a) d both.1
-silent_draft u w (called k a) slot d s = pat_called u w k a slot d ∙ silent_draft u w a slot d s
+    pat_cat written_out u w a b slot d ∙ ap (with_pat written_out u w b (slot + slots_in a)) (silent_draft u w a slot d both.0)
+    ∙ silent_draft u w b (slot + slots_in a) d both.1
+silent_draft u w (called k a) slot d s = pat_called written_out u w k a slot d refl ∙ silent_draft u w a slot d s
 silent_draft u w _ slot d s = never s
 
-pub silent_allowed : (unicode keeps : Bool) (p : CorePattern) → is_silent p ≡ true → IsAllowed unicode keeps p
-silent_allowed unicode keeps nothing s = tt
-silent_allowed unicode keeps (cat a b) s =
-    let both = and_parts (is_silent a) (is_silent b) s in (silent_allowed unicode keeps a both.0, silent_allowed unicode keeps b both.1)
-silent_allowed unicode keeps (called k a) s = silent_allowed unicode keeps a s
-silent_allowed unicode keeps _ s = never s
+silent_allowed : (all : List Need) (unicode keeps : Bool) (p : CorePattern) → is_silent p ≡ true → IsAllowedUnder written_out all unicode keeps p
+silent_allowed all unicode keeps nothing s = tt
+silent_allowed all unicode keeps (cat a b) s =
+    let both = and_parts (is_silent a) (is_silent b) s in (silent_allowed all unicode keeps a both.0, silent_allowed all unicode keeps b both.1)
+silent_allowed all unicode keeps (called k a) s = (λ j. refl, silent_allowed all unicode keeps a s)
+silent_allowed all unicode keeps _ s = never s
 
-pub wrote_silent : (u w : Bool) (e : Emitter) (slot : ℕ) (p : CorePattern) → is_silent p ≡ true → Wrote u w e e slot slot p
-wrote_silent u w e slot p s = record {
+-- the same where no call stays
+pub allowed_silent : (layout : Layout) (all : List Need) (unicode keeps : Bool) (p : CorePattern) → layout ≡ written_out → is_silent p ≡ true →
+    IsAllowedUnder layout all unicode keeps p
+allowed_silent layout all unicode keeps p none s = subst (λ l. IsAllowedUnder l all unicode keeps p) (sym none) (silent_allowed all unicode keeps p s)
+
+pub wrote_silent : (layout : Layout) (u w : Bool) (e : Emitter) (slot : ℕ) (p : CorePattern) → layout ≡ written_out → is_silent p ≡ true → Wrote layout u w e e slot slot p
+wrote_silent layout u w e slot p none s = subst (λ l. Wrote l u w e e slot slot p) (sym none) (record {
   draft = sym (silent_draft u w p slot (draft_of e.body) s);
   slots = omega (arith, silent_slots p s);
   opened = refl;
-}
+})
+
+-- the room for the characters of a call
+pub text_fits : (layout : Layout) (n : ℕ) (p : CorePattern) → layout ≡ written_out → IsText n p → n ≤ room_with layout p
+text_fits layout n p none h = omega (arith, h.fits, room_written_out p, ap (λ (l : Layout). room_with l p) none)
 
 -- One node and a row.
 text_nothing : IsText 0 nothing

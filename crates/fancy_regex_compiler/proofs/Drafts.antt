@@ -6,8 +6,8 @@ use Rattle.fancy_regex_tree.specs.Tree.{Text, Tree}
 use Rattle.fancy_regex_class.specs.Classes.{in_class, folded}
 use Rattle.fancy_regex_desugar.specs.CorePatterns.{CorePattern, literal, nothing, read, keep_out, fail, cat, group, ahead, never, back, atomic, delegate, tail, repeat, absent, called}
 use Rattle.fancy_regex_program.specs.Ops as op
-use Rattle.fancy_regex_program.specs.Ops.{Op}
-use Rattle.fancy_regex_program.specs.Code.{waits, flushed, slots_in, is_uncounted, loop_entry, loop_head, code_of}
+use Rattle.fancy_regex_program.specs.Ops.{Op, Place}
+use Rattle.fancy_regex_program.specs.Code.{Layout, where_written, waits_at_call, call_code, waits_with, flushed, slots_with, is_uncounted, loop_entry, loop_head, code_with}
 use Rattle.fancy_regex_compiler.specs.Writing.{Draft, with_op, with_char, closed_draft, added, patched, ended_by, ended, with_pat}
 
 pub same_draft : {a b : List Op} {s t : Text} → a ≡ b → s ≡ t → ◌≡◌ {A = Draft} (record { ops = a; text = s }) (record { ops = b; text = t })
@@ -45,28 +45,28 @@ pub length_with_op : (o : Op) (d : Draft) → length (with_op o d).ops ≡ lengt
 unfolding with_op
 length_with_op o d = length-append d.ops (o ∷ [])
 
-module _ (u w : Bool) where
+module _ (layout : Layout) (u w : Bool) where
   abbrev C : CorePattern → Text → ℕ → ℕ → List Op
-  C = code_of (in_class u) (folded u) w
+  C = code_with (in_class u) (folded u) w layout
 
   abbrev P : CorePattern → ℕ → Draft → Draft
-  P = with_pat u w
+  P = with_pat layout u w
 
   pub pat_nothing : (slot : ℕ) (d : Draft) → P nothing slot d ≡ d
-  unfolding with_pat code_of
+  unfolding with_pat code_with
   pat_nothing slot d = same_draft (append-nil d.ops) refl
 
-  pub pat_cat : (a b : CorePattern) (slot : ℕ) (d : Draft) → P (cat a b) slot d ≡ P b (slot + slots_in a) (P a slot d)
-  unfolding with_pat code_of
+  pub pat_cat : (a b : CorePattern) (slot : ℕ) (d : Draft) → P (cat a b) slot d ≡ P b (slot + slots_with layout a) (P a slot d)
+  unfolding with_pat code_with
   pat_cat a b slot d =
       let first = C a d.text (length d.ops) slot in
       same_draft
-      (ap (λ n. d.ops ++ (first ++ C b (waits a d.text) n (slot + slots_in a))) (sym (length-append d.ops first))
-      ∙ sym (append_assoc d.ops first (C b (waits a d.text) (length (d.ops ++ first)) (slot + slots_in a))))
+      (ap (λ n. d.ops ++ (first ++ C b (waits_with layout a d.text) n (slot + slots_with layout a))) (sym (length-append d.ops first))
+      ∙ sym (append_assoc d.ops first (C b (waits_with layout a d.text) (length (d.ops ++ first)) (slot + slots_with layout a))))
       refl
 
   pub pat_wait : (c slot : ℕ) (d : Draft) → P (read (literal c false)) slot d ≡ with_char c d
-  unfolding with_pat code_of with_char
+  unfolding with_pat code_with with_char
   pat_wait c slot d = refl
 
   -- an operation of its own
@@ -75,20 +75,34 @@ module _ (u w : Bool) where
   alone o d = same_draft (sym (append_assoc d.ops (flushed d.text) (o ∷ []))) refl
 
   pub pat_fail : (slot : ℕ) (d : Draft) → P fail slot d ≡ added op.fail d
-  unfolding with_pat code_of
+  unfolding with_pat code_with
   pat_fail slot d = alone op.fail d
 
-  -- what stands for a body is all that a call of it is
-  pub pat_called : (k : ℕ) (a : CorePattern) (slot : ℕ) (d : Draft) → P (called k a) slot d ≡ P a slot d
-  unfolding with_pat code_of
-  pat_called k a slot d = refl
+  -- what stands for a body is all that a call of it is, where it is written out
+  pub pat_called : (k : ℕ) (a : CorePattern) (slot : ℕ) (d : Draft) → layout k ≡ None → P (called k a) slot d ≡ P a slot d
+  unfolding with_pat code_with
+  pat_called k a slot d none =
+      same_draft (ap (λ o. d.ops ++ call_code o (C a) d.text (length d.ops) slot) none) (ap (λ o. waits_at_call o (waits_with layout a d.text)) none)
+
+  pub slots_called : (k : ℕ) (a : CorePattern) → layout k ≡ None → slots_with layout (called k a) ≡ slots_with layout a
+  slots_called k a none = ap (λ o. where_written o (slots_with layout a)) none
+
+  -- a call that stays is an operation
+  pub pat_stays : (k : ℕ) (c : Place) (a : CorePattern) (slot : ℕ) (d : Draft) → layout k ≡ Some c → P (called k a) slot d ≡ added (op.call c) d
+  unfolding with_pat code_with
+  pat_stays k c a slot d some =
+      same_draft (ap (λ o. d.ops ++ call_code o (C a) d.text (length d.ops) slot) some) (ap (λ o. waits_at_call o (waits_with layout a d.text)) some)
+      ∙ alone (op.call c) d
+
+  pub slots_stays : (k : ℕ) (c : Place) (a : CorePattern) → layout k ≡ Some c → slots_with layout (called k a) ≡ 0
+  slots_stays k c a some = ap (λ o. where_written o (slots_with layout a)) some
 
   pub pat_back : (n slot : ℕ) (d : Draft) → P (back n) slot d ≡ added (op.go_back n) d
-  unfolding with_pat code_of
+  unfolding with_pat code_with
   pat_back n slot d = alone (op.go_back n) d
 
   pub pat_delegate : (t : Tree) (a : CorePattern) (slot : ℕ) (d : Draft) → P (delegate t a) slot d ≡ added (op.delegate (in_class u) (folded u) t) d
-  unfolding with_pat code_of
+  unfolding with_pat code_with
   pat_delegate t a slot d = alone (op.delegate (in_class u) (folded u) t) d
 
   either_kept : (b : Bool) (d : Draft) → ◌≡◌ {A = Draft} (record { ops = d.ops ++ (flushed d.text ++ cond b (op.save 0 ∷ []) []); text = [] })
@@ -98,17 +112,17 @@ module _ (u w : Bool) where
   either_kept false d = same_draft (ap (λ l. d.ops ++ l) (append-nil (flushed d.text))) refl
 
   pub pat_keep : (slot : ℕ) (d : Draft) → P keep_out slot d ≡ cond w (added (op.save 0) d) (closed_draft d)
-  unfolding with_pat code_of
+  unfolding with_pat code_with
   pat_keep slot d = either_kept w d
 
   -- a part with its own rest, after one operation
   after_one : (d : Draft) (o : Op) (a : CorePattern) (s : ℕ) (rest : List Op) →
-      d.ops ++ (flushed d.text ++ (o ∷ ((C a [] (length d.ops + length (flushed d.text) + 1) s ++ flushed (waits a [])) ++ rest)))
+      d.ops ++ (flushed d.text ++ (o ∷ ((C a [] (length d.ops + length (flushed d.text) + 1) s ++ flushed (waits_with layout a [])) ++ rest)))
       ≡ (closed_draft (P a s (added o d))).ops ++ rest
   unfolding with_pat with_op closed_draft
   after_one d o a s rest =
       let f = flushed d.text in
-      let g = flushed (waits a []) in
+      let g = flushed (waits_with layout a []) in
       let n = length ((d.ops ++ f) ++ o ∷ []) in
       let long : n ≡ length d.ops + length f + 1 = omega (arith, length-append (d.ops ++ f) (o ∷ []), length-append d.ops f) in
       ap (λ k. d.ops ++ (f ++ (o ∷ ((C a [] k s ++ g) ++ rest)))) (sym long)
@@ -116,7 +130,7 @@ module _ (u w : Bool) where
 
   pub pat_group : (k : ℕ) (a : CorePattern) (slot : ℕ) (d : Draft) → P (group k a) slot d
       ≡ with_op (op.save (2 * k + 1)) (with_op (op.copy slot (2 * k)) (closed_draft (P a (slot + 1) (added (op.save slot) d))))
-  unfolding with_pat code_of with_op closed_draft
+  unfolding with_pat code_with with_op closed_draft
   pat_group k a slot d =
       same_draft
       (after_one d (op.save slot) a (slot + 1) (op.copy slot (2 * k) ∷ op.save (2 * k + 1) ∷ [])
@@ -125,12 +139,12 @@ module _ (u w : Bool) where
 
   pub pat_ahead : (a : CorePattern) (slot : ℕ) (d : Draft) → P (ahead a) slot d
       ≡ with_op (op.restore slot) (closed_draft (P a (slot + 1) (added (op.save slot) d)))
-  unfolding with_pat code_of with_op closed_draft
+  unfolding with_pat code_with with_op closed_draft
   pat_ahead a slot d = same_draft (after_one d (op.save slot) a (slot + 1) (op.restore slot ∷ [])) refl
 
   pub pat_atomic : (a : CorePattern) (slot : ℕ) (d : Draft) → P (atomic a) slot d
       ≡ with_op (op.end_atomic slot) (closed_draft (P a (slot + 1) (added (op.begin_atomic slot) d)))
-  unfolding with_pat code_of with_op closed_draft
+  unfolding with_pat code_with with_op closed_draft
   pat_atomic a slot d = same_draft (after_one d (op.begin_atomic slot) a (slot + 1) (op.end_atomic slot ∷ [])) refl
 
   -- A part with its own rest, after two operations, of which the second was a hole.
@@ -139,7 +153,7 @@ module _ (u w : Bool) where
     pc = length d.ops + length (flushed d.text)
 
     abbrev body : List Op
-    body = C a [] (pc + 2) s ++ flushed (waits a [])
+    body = C a [] (pc + 2) s ++ flushed (waits_with layout a [])
 
     abbrev before : Draft
     before = added o d
@@ -159,14 +173,14 @@ module _ (u w : Bool) where
     past_body =
         let l = (with_op x before).ops in
         let c = C a (with_op x before).text (length l) s in
-        let g = flushed (waits a (with_op x before).text) in
+        let g = flushed (waits_with layout a (with_op x before).text) in
         let same : length (c ++ g) ≡ length body = ap (λ k. length (C a [] k s ++ g)) past_hole in
         omega (arith, length-append (l ++ c) g, length-append l c, length-append c g, past_hole, same)
 
     pub filled : (y : Op) (rest : List Op) → d.ops ++ (flushed d.text ++ (o ∷ y ∷ (body ++ rest))) ≡ set (inside.ops ++ rest) (length before.ops) y
     unfolding with_pat with_op closed_draft
     filled y rest =
-        let g = flushed (waits a []) in
+        let g = flushed (waits_with layout a []) in
         let l = (before.ops ++ x ∷ []) in
         ap (λ k. d.ops ++ (flushed d.text ++ (o ∷ y ∷ ((C a [] k s ++ g) ++ rest)))) (sym past_hole)
         ∙ sym (flat_two d.ops (flushed d.text) o y ((C a [] (length l) s ++ g) ++ rest))
@@ -177,7 +191,7 @@ module _ (u w : Bool) where
     unfolding with_pat with_op closed_draft
     spread rest =
         let q = d.ops ++ flushed d.text in
-        let g = flushed (waits a []) in
+        let g = flushed (waits_with layout a []) in
         let l = (before.ops ++ x ∷ []) in
         flat_holes q o x (C a [] (length l) s) g rest
         ∙ ap (λ k. q ++ (o ∷ x ∷ ((C a [] k s ++ g) ++ rest))) past_hole
@@ -205,11 +219,11 @@ module _ (u w : Bool) where
       ≡ (let b = closed_draft d in
       let e = closed_draft (P a slot (with_op (op.tail (in_class u) (folded u) t 0) b)) in
       ended (length b.ops) (length e.ops) e)
-  unfolding with_pat code_of patched with_op closed_draft ended
+  unfolding with_pat code_with patched with_op closed_draft ended
   pat_tail t a slot d =
       let o : ℕ → Op = op.tail (in_class u) (folded u) t in
       let q = d.ops ++ flushed d.text in
-      let g = flushed (waits a []) in
+      let g = flushed (waits_with layout a []) in
       let l = length (q ++ o 0 ∷ []) in
       let n = length d.ops + length (flushed d.text) in
       let c = C a [] l slot in
@@ -231,7 +245,7 @@ module _ (u w : Bool) where
       ≡ (let b = added (op.begin_atomic slot) d in
       let e = with_op (op.fail_negative slot) (closed_draft (P a (slot + 1) (with_op (op.split 0 0) b))) in
       patched (length b.ops) (op.split (length (with_op (op.split 0 0) b).ops) (length e.ops)) e)
-  unfolding with_pat code_of patched with_op closed_draft
+  unfolding with_pat code_with patched with_op closed_draft
   pat_never a slot d =
       let o = op.begin_atomic slot in
       let x = op.split 0 0 in
@@ -250,7 +264,7 @@ module _ (u w : Bool) where
       ≡ (let b = added (op.begin_repeat slot) d in
       let e = with_op (op.jump (length b.ops)) (closed_draft (P a (slot + 1) (with_op op.fail b))) in
       patched (length b.ops) (op.repeat greedy lo hi (length e.ops) slot) e)
-  unfolding with_pat code_of patched with_op closed_draft
+  unfolding with_pat code_with patched with_op closed_draft
   pat_counted a lo hi greedy slot d =
       let o = op.begin_repeat slot in
       let x = op.fail in
@@ -272,7 +286,7 @@ module _ (u w : Bool) where
       let uncounted = is_uncounted lo (length b.ops + 1) (drop (length b.ops + 1) i.ops) in
       patched (length b.ops) (loop_head uncounted lo greedy (length b.ops + 1) (length e.ops) slot (slot + 1))
       (patched (length b.ops - 1) (loop_entry uncounted lo (length b.ops) slot) e))
-  unfolding with_pat code_of patched with_op closed_draft
+  unfolding with_pat code_with patched with_op closed_draft
   pat_loop a lo greedy slot d =
       let x = op.fail in
       let n = pc d x x a (slot + 2) in
@@ -304,7 +318,7 @@ module _ (u w : Bool) where
       ≡ (let b = added (op.absent_begin slot (slot + 1)) d in
       let e = with_op (op.absent_limit (slot + 1)) (closed_draft (P a (slot + 2) (with_op op.fail b))) in
       patched (length b.ops) (op.absent_scan (length e.ops) (slot + 1)) (with_op (op.absent_end slot (slot + 1)) e))
-  unfolding with_pat code_of patched with_op closed_draft
+  unfolding with_pat code_with patched with_op closed_draft
   pat_absent a slot d =
       let o = op.absent_begin slot (slot + 1) in
       let x = op.fail in

@@ -61,7 +61,7 @@ module _ (groups : List Tree) (reads : ℕ → Bool) where
     mutual
       unfolding expected_info expected_infos info_written info_written_all front_of behind_of written written_all
 
-      known_is : (n : ℕ) (t : Tree) → info_written call (D n t) ≡ written groups call n t
+      pub known_is : (n : ℕ) (t : Tree) → info_written call (D n t) ≡ written groups call n t
       known_is n (tree.alt ts) = ap (branches groups (tree.alt ts)) (known_all n ts)
       known_is n (tree.concat ts) = ap (λ us. node groups (tree.concat ts) (cat_all us)) (known_all n ts)
       known_is n (tree.group t) = ap (λ v. node groups (tree.group t) (group n v.front)) (known_is (n + 1) t)
@@ -217,7 +217,7 @@ module _ (groups : List Tree) (reads : ℕ → Bool) where
       let f : ℕ → ℕ = λ i. cond (i == j) 1 0 in
       omega (arith, sum_by-append f xs (k ∷ []), sum_by-cons f k [], sum_by-cons f k ys, same j)
 
-  picked : (f : InfoTree → CorePattern) (g : Tree → CorePattern) (d : Tree → InfoTree) → ((t : Tree) → f (d t) ≡ g t) → (o : Option Tree) →
+  pub picked : (f : InfoTree → CorePattern) (g : Tree → CorePattern) (d : Tree → InfoTree) → ((t : Tree) → f (d t) ≡ g t) → (o : Option Tree) →
       pat_for f (option_map d o) ≡ pat_for g o
   picked f g d same None = refl
   picked f g d same (Some t) = same t

@@ -21,7 +21,18 @@ mod WritableLemmas
 mod WholeLemmas
 mod ClassLemmas
 mod RoomLemmas
+mod NeedLemmas
 mod LengthLemmas
+pub mod KeptLength
+pub mod BodyLemmas
+pub mod InfoParts
+pub mod NeedsMet
+pub mod KeptWhole
+mod StackLemmas
+mod AddedBodies
+mod MetLemmas
+mod MainLemmas
+mod KeptLemmas
 mod CapLemmas
 mod WorkLemmas
 mod StepLemmas

@@ -2,16 +2,16 @@
 use Rattle.std.proofs.Common.{◌≡◌, ℕ, ◌<◌, ◌≤◌, Bool, true, false, List, Result, Ok, Err, IsErrAnd, true≢false, sym, ◌∙◌, subst, arith}
 use Rattle.std.proofs.lemmas.Result.{IfOk-weaker}
 use Rattle.fancy_regex_desugar.specs.CorePatterns.{CorePattern}
-use Rattle.fancy_regex_desugar.specs.ProgramSizes.{room}
 use Rattle.fancy_regex_analysis.specs.AnalysisErrors.{is_too_complex}
 use Rattle.fancy_regex_info.specs.Infos.{InfoTree}
 use Rattle.fancy_regex_info.specs.declared.error.CompileError.{CompileError}
 use Rattle.fancy_regex_compiler.specs.Extents.{IsFull, Appends, Writes}
 use Rattle.fancy_regex_compiler.specs.Refusals.{TreeContext, IsAnalyzed, IsReasonWhere, IsMemoryOrTooComplex}
-use Rattle.fancy_regex_compiler.specs.Tasks.{Progress, listed, tasks_work, Emits, EmitsPattern, Begins}
-use Rattle.fancy_regex_compiler.specs.Writing.{Draft, infos_of}
+use Rattle.fancy_regex_compiler.specs.Tasks.{Progress, room_of, listed, tasks_work, Emits, EmitsPattern, Begins}
+use Rattle.fancy_regex_compiler.specs.Writing.{Draft, layout_of, infos_of}
 use Rattle.fancy_regex_compiler.specs.declared.emitter.CompileContext.{CompileContext}
 use Rattle.fancy_regex_compiler.specs.declared.emitter.Emitter.{Emitter}
+use Rattle.fancy_regex_compiler.specs.declared.emitter.Need.{Need}
 use Rattle.fancy_regex_compiler.specs.declared.program_builder.ProgramBuilder.{ProgramBuilder}
 use Rattle.fancy_regex_compiler.specs.declared.task.Step.{Step}
 use Rattle.fancy_regex_compiler.proofs.RefusalLemmas.{reason_weaker}
@@ -35,12 +35,13 @@ appends_error {more = more} {old = old} (Err f) e is cap full refused = record {
 }
 
 pub writes_error : {A : Type 0} {context : CompileContext} {old new : Emitter} {p : CorePattern} (r : Result A CompileError) (e : CompileError) → IsErrAnd r (λ f. f ≡ e) →
-    new.body.cap ≡ old.body.cap → IsFull old.body (room p) e → Writes context old new r p
+    new.body.cap ≡ old.body.cap → IsFull old.body (room_of context p) e → Writes context old new r p
 writes_error (Ok x) e is cap full = absurd is
-writes_error {old = old} {p = p} (Err f) e is cap full = record {
+writes_error {context = context} {old = old} {p = p} (Err f) e is cap full = record {
   cap = cap;
   wrote = tt;
-  full = subst (IsFull old.body (room p)) (sym is) full;
+  needs = tt;
+  full = subst (IsFull old.body (room_of context p)) (sym is) full;
 }
 
 pub begins_error : {old new : Emitter} {slot : ℕ} {keeps : Bool} {p : CompileContext → CorePattern} {S : TreeContext → Type 0} {w : List InfoTree → ℕ}
@@ -55,7 +56,7 @@ begins_error {old = old} (Err f) e is cap full refused = record {
   refused = subst IsMemoryOrTooComplex (sym is) refused;
 }
 
-pub emits_error : {context : CompileContext} {old new : Emitter} {slot : ℕ} {end : Progress} {A : Type 0} {most : ℕ} {S : TreeContext → Type 0} {w : ℕ}
+pub emits_error : {context : CompileContext} {old new : Emitter} {slot : ℕ} {end : Progress} {A : List Need → Type 0} {most : ℕ} {S : TreeContext → Type 0} {w : ℕ}
     (r : Result Step CompileError) (e : CompileError) → IsErrAnd r (λ f. f ≡ e) → new.body.cap ≡ old.body.cap → IsFull old.body most e →
     IsReasonWhere context.unicode (infos_of context) S e → Emits context old new slot r end A most S w
 emits_error (Ok x) e is cap full refused = absurd is
@@ -68,7 +69,7 @@ emits_error {context = context} {old = old} {most = most} {S = S} (Err f) e is c
 }
 
 -- an error for want of memory or of room that is passed on
-pub emits_want : {context : CompileContext} {old new : Emitter} {slot : ℕ} {end : Progress} {A : Type 0} {most : ℕ} {S : TreeContext → Type 0} {w : ℕ}
+pub emits_want : {context : CompileContext} {old new : Emitter} {slot : ℕ} {end : Progress} {A : List Need → Type 0} {most : ℕ} {S : TreeContext → Type 0} {w : ℕ}
     (r : Result Step CompileError) (e : CompileError) → IsErrAnd r (λ f. f ≡ e) → new.body.cap ≡ old.body.cap → IsFull old.body most e →
     IsMemoryOrTooComplex e → Emits context old new slot r end A most S w
 emits_want {context = context} {S = S} r e is cap full refused =
@@ -83,21 +84,21 @@ emits_as {context = context} {old = old} {new = new} {slot = slot} {r = r} keeps
   leads = leads_as r context old new slot keeps p q A B is f h.leads;
   work = IfOk-weaker r (λ step. tasks_work (infos_of context) (listed step.tasks) < m) (λ step. tasks_work (infos_of context) (listed step.tasks) < n)
       (λ step k. omega (arith, k, less)) h.work;
-  full = full_same r old.body is h.full;
+  full = full_same (layout_of context) r old.body is h.full;
   refused = reason_weaker r context.unicode (infos_of context) A B f h.refused;
 }
 
 -- a construct that was begun, in what is fixed for this compilation
 pub emits_begun : {old new : Emitter} {slot : ℕ} {r : Result Step CompileError} {keeps : Bool} {p : CompileContext → CorePattern} {A : TreeContext → Type 0}
     {m : List InfoTree → ℕ} (context : CompileContext) (q : CorePattern) (B : TreeContext → Type 0) (n : ℕ) → Begins old new slot r keeps p A m → q ≡ p context →
-    ((tree_context : TreeContext) → IsAnalyzed tree_context (infos_of context) → B tree_context → A tree_context) → 2 ≤ room q → m (infos_of context) ≤ n →
+    ((tree_context : TreeContext) → IsAnalyzed tree_context (infos_of context) → B tree_context → A tree_context) → 2 ≤ room_of context q → m (infos_of context) ≤ n →
     EmitsPattern context q keeps B n old new slot r
 emits_begun {old = old} {new = new} {slot = slot} {r = r} {keeps = keeps} {p = p} {A = A} {m = m} context q B n h is f two less = record {
   cap = h.cap;
   leads = leads_as_any r context old new slot keeps p q A B is f h.leads;
   work = IfOk-weaker r (λ step. (any : List InfoTree) → tasks_work any (listed step.tasks) < m any) (λ step. tasks_work (infos_of context) (listed step.tasks) < n)
       (λ step k. let here = k (infos_of context) in omega (arith, here, less)) h.work;
-  full = full_within r old.body 2 (room q) two h.full;
+  full = full_within r old.body 2 (room_of context q) two h.full;
   refused = reason_for_want r context.unicode (infos_of context) B h.refused;
 }
 

@@ -1,5 +1,5 @@
 -- The program of a pattern fits into the pattern's room, and is refused for its length only where the cap is below that.
-use Rattle.std.proofs.Common.{◌≡◌, ℕ, suc, ◌+◌, ◌*◌, ◌<◌, ◌≤◌, Bool, true, false, cond, List, [], ◌∷◌, ◌++◌, length, Option, Some, None, Result, IfErr, IsErrAnd, refl, sym, ap, subst, ◌∙◌, arith, length-append}
+use Rattle.std.proofs.Common.{◌≡◌, ℕ, suc, ◌+◌, ◌*◌, ◌<◌, ◌≤◌, Bool, true, false, cond, List, [], ◌∷◌, ◌++◌, length, Option, Some, None, Result, IfErr, IsErrAnd, refl, sym, ap, ap₂, subst, ◌∙◌, arith, length-append}
 use Rattle.std.specs.Prelude.{slice_get}
 use Rattle.std.proofs.lemmas.List.{length-set}
 use Rattle.std.proofs.lemmas.Result.{IfErr-weaker}
@@ -16,9 +16,9 @@ use Rattle.fancy_regex_info.specs.Infos.{InfoTree}
 use Rattle.fancy_regex_info.specs.declared.error.CompileError.{CompileError}
 use Rattle.fancy_regex_analysis.proofs.PartErrorLemmas.{gives}
 use Rattle.fancy_regex_program.specs.Ops as op
-use Rattle.fancy_regex_program.specs.Ops.{Op, op_of}
-use Rattle.fancy_regex_program.specs.Code.{Code, is_whole_literal, still_waits, waits, flushed, slots_in, one, after_text, closed, alt_code, group_code, ahead_code, never_code, atomic_code, tail_code, repeat_code, loop_code, conditional_code, absent_code, leaf_op, code_of}
-use Rattle.fancy_regex_compiler.specs.Extents.{extent, IsFull}
+use Rattle.fancy_regex_program.specs.Ops.{Op, Place, op_of}
+use Rattle.fancy_regex_program.specs.Code.{Layout, written_out, call_code, waits_at_call, Code, is_whole_literal, still_waits, waits_with, flushed, slots_with, one, after_text, closed, alt_code, group_code, ahead_code, never_code, atomic_code, tail_code, repeat_code, loop_code, conditional_code, absent_code, leaf_op, code_with}
+use Rattle.fancy_regex_compiler.specs.Extents.{extent, room_at_call, room_with, IsFull}
 use Rattle.fancy_regex_compiler.specs.Known.{front_of, info_written, info_call}
 use Rattle.fancy_regex_compiler.specs.Writing.{Draft, draft_of, with_op, closed_draft, added, patched, ended_by, ended, with_pat, Wrote, IsInsn}
 use Rattle.fancy_regex_compiler.specs.declared.program_builder.ProgramBuilder.{ProgramBuilder}
@@ -103,22 +103,46 @@ conditional_long c a b c_slots a_slots pc slot l m n hc ha hb =
       length-append yes (op.jump (k + length no) ∷ no),
     )
 
-module _ (u w : Bool) where
+-- a call that stays, or what stands for it
+call_fits : (o : Option Place) (code : Text → Code) (waiting text : Text) (pc slot most : ℕ) →
+    length (code text pc slot) + length (flushed waiting) ≤ most + length (flushed text) →
+    length (call_code o code text pc slot) + length (flushed (waits_at_call o waiting)) ≤ room_at_call o most + length (flushed text)
+call_fits None code waiting text pc slot most h = h
+call_fits (Some c) code waiting text pc slot most h = alone_long text (op.call c) pc slot 1 (omega arith)
+
+-- where no call stays it is the room of the pattern
+pub room_written_out : (p : CorePattern) → room_with written_out p ≡ room p
+unfolding room_with room
+room_written_out (cat a b) = ap₂ (λ m n. m + n) (room_written_out a) (room_written_out b)
+room_written_out (alt a b) = ap₂ (λ m n. 2 + (m + n)) (room_written_out a) (room_written_out b)
+room_written_out (group k a) = ap (λ n. 12 + n) (room_written_out a)
+room_written_out (ahead a) = ap (λ n. 12 + n) (room_written_out a)
+room_written_out (never a) = ap (λ n. 12 + n) (room_written_out a)
+room_written_out (atomic a) = ap (λ n. 12 + n) (room_written_out a)
+room_written_out (tail t a) = ap (λ n. 1 + n) (room_written_out a)
+room_written_out (repeat a lo hi greedy) = ap (λ n. 12 + n) (room_written_out a)
+room_written_out (conditional c a b) =
+    ap (λ n. 12 + n) (ap₂ (λ m n. m + n) (room_written_out c) (ap₂ (λ m n. m + n) (room_written_out a) (room_written_out b)))
+room_written_out (absent a) = ap (λ n. 12 + n) (room_written_out a)
+room_written_out (called k a) = room_written_out a
+room_written_out _ = refl
+
+module _ (layout : Layout) (u w : Bool) where
   abbrev C : CorePattern → Text → ℕ → ℕ → List Op
-  C = code_of (in_class u) (folded u) w
+  C = code_with (in_class u) (folded u) w layout
 
   -- a part with what waits after it
   abbrev shut : CorePattern → Code
-  shut p = closed (C p []) (waits p [])
+  shut p = closed (C p []) (waits_with layout p [])
 
-  shut_long : (p : CorePattern) → ((pc slot : ℕ) → length (C p [] pc slot) + length (flushed (waits p [])) ≤ room p + 0) →
-      (pc slot : ℕ) → length (shut p pc slot) ≤ room p
-  shut_long p h pc slot = omega (arith, h pc slot, length-append (C p [] pc slot) (flushed (waits p [])))
+  shut_long : (p : CorePattern) → ((pc slot : ℕ) → length (C p [] pc slot) + length (flushed (waits_with layout p [])) ≤ room_with layout p + 0) →
+      (pc slot : ℕ) → length (shut p pc slot) ≤ room_with layout p
+  shut_long p h pc slot = omega (arith, h pc slot, length-append (C p [] pc slot) (flushed (waits_with layout p [])))
 
   -- the program with what waits after it, against the room with what waited before it
   pub code_fits : (p : CorePattern) (text : Text) (pc slot : ℕ) →
-      length (C p text pc slot) + length (flushed (waits p text)) ≤ room p + length (flushed text)
-  unfolding code_of room
+      length (C p text pc slot) + length (flushed (waits_with layout p text)) ≤ room_with layout p + length (flushed text)
+  unfolding code_with room_with
   code_fits nothing text pc slot = omega arith
   code_fits (read (literal c false)) text pc slot =
       omega (arith, long_waiting (is_whole_literal text) text, long_flushed (still_waits text ++ c ∷ []))
@@ -136,50 +160,51 @@ module _ (u w : Bool) where
   code_fits (cat a b) text pc slot =
       let first = C a text pc slot in
       let n = pc + length first in
-      let second = C b (waits a text) n (slot + slots_in a) in
-      omega (arith, length-append first second, code_fits a text pc slot, code_fits b (waits a text) n (slot + slots_in a))
+      let second = C b (waits_with layout a text) n (slot + slots_with layout a) in
+      omega (arith, length-append first second, code_fits a text pc slot, code_fits b (waits_with layout a text) n (slot + slots_with layout a))
   code_fits (alt a b) text pc slot =
-      after_text_long text (alt_code (shut a) (shut b) (slots_in a)) pc slot (2 + (room a + room b))
-      (alt_long (shut a) (shut b) (slots_in a) (pc + length (flushed text)) slot (room a) (room b)
+      after_text_long text (alt_code (shut a) (shut b) (slots_with layout a)) pc slot (2 + (room_with layout a + room_with layout b))
+      (alt_long (shut a) (shut b) (slots_with layout a) (pc + length (flushed text)) slot (room_with layout a) (room_with layout b)
       (λ k. shut_long a (code_fits a []) k slot) (shut_long b (code_fits b [])))
   code_fits (group k a) text pc slot =
       let n = pc + length (flushed text) in
-      after_text_long text (group_code k (shut a)) pc slot (12 + room a)
-      (group_long k (shut a) n slot (room a) (shut_long a (code_fits a []) (n + 1) (slot + 1)))
+      after_text_long text (group_code k (shut a)) pc slot (12 + room_with layout a)
+      (group_long k (shut a) n slot (room_with layout a) (shut_long a (code_fits a []) (n + 1) (slot + 1)))
   code_fits (ahead a) text pc slot =
       let n = pc + length (flushed text) in
-      after_text_long text (ahead_code (shut a)) pc slot (12 + room a)
-      (ahead_long (shut a) n slot (room a) (shut_long a (code_fits a []) (n + 1) (slot + 1)))
+      after_text_long text (ahead_code (shut a)) pc slot (12 + room_with layout a)
+      (ahead_long (shut a) n slot (room_with layout a) (shut_long a (code_fits a []) (n + 1) (slot + 1)))
   code_fits (never a) text pc slot =
       let n = pc + length (flushed text) in
-      after_text_long text (never_code (shut a)) pc slot (12 + room a)
-      (never_long (shut a) n slot (room a) (shut_long a (code_fits a []) (n + 2) (slot + 1)))
+      after_text_long text (never_code (shut a)) pc slot (12 + room_with layout a)
+      (never_long (shut a) n slot (room_with layout a) (shut_long a (code_fits a []) (n + 2) (slot + 1)))
   code_fits (atomic a) text pc slot =
       let n = pc + length (flushed text) in
-      after_text_long text (atomic_code (shut a)) pc slot (12 + room a)
-      (atomic_long (shut a) n slot (room a) (shut_long a (code_fits a []) (n + 1) (slot + 1)))
+      after_text_long text (atomic_code (shut a)) pc slot (12 + room_with layout a)
+      (atomic_long (shut a) n slot (room_with layout a) (shut_long a (code_fits a []) (n + 1) (slot + 1)))
   code_fits (delegate t a) text pc slot = alone_long text (op.delegate (in_class u) (folded u) t) pc slot 12 (omega arith)
   code_fits (tail t a) text pc slot =
       let n = pc + length (flushed text) in
-      after_text_long text (tail_code (op.tail (in_class u) (folded u) t) (shut a)) pc slot (1 + room a)
-      (tail_long (op.tail (in_class u) (folded u) t) (shut a) n slot (room a) (shut_long a (code_fits a []) (n + 1) slot))
+      after_text_long text (tail_code (op.tail (in_class u) (folded u) t) (shut a)) pc slot (1 + room_with layout a)
+      (tail_long (op.tail (in_class u) (folded u) t) (shut a) n slot (room_with layout a) (shut_long a (code_fits a []) (n + 1) slot))
   code_fits (repeat a lo None greedy) text pc slot =
       let n = pc + length (flushed text) in
-      after_text_long text (loop_code lo greedy (shut a)) pc slot (12 + room a)
-      (loop_long lo greedy (shut a) n slot (room a) (shut_long a (code_fits a []) (n + 2) (slot + 2)))
+      after_text_long text (loop_code lo greedy (shut a)) pc slot (12 + room_with layout a)
+      (loop_long lo greedy (shut a) n slot (room_with layout a) (shut_long a (code_fits a []) (n + 2) (slot + 2)))
   code_fits (repeat a lo (Some hi) greedy) text pc slot =
       let n = pc + length (flushed text) in
-      after_text_long text (repeat_code lo hi greedy (shut a)) pc slot (12 + room a)
-      (repeat_long lo hi greedy (shut a) n slot (room a) (shut_long a (code_fits a []) (n + 2) (slot + 1)))
+      after_text_long text (repeat_code lo hi greedy (shut a)) pc slot (12 + room_with layout a)
+      (repeat_long lo hi greedy (shut a) n slot (room_with layout a) (shut_long a (code_fits a []) (n + 2) (slot + 1)))
   code_fits (conditional c a b) text pc slot =
-      after_text_long text (conditional_code (shut c) (shut a) (shut b) (slots_in c) (slots_in a)) pc slot (12 + (room c + (room a + room b)))
-      (conditional_long (shut c) (shut a) (shut b) (slots_in c) (slots_in a) (pc + length (flushed text)) slot (room c) (room a) (room b)
+      after_text_long text (conditional_code (shut c) (shut a) (shut b) (slots_with layout c) (slots_with layout a)) pc slot (12 + (room_with layout c + (room_with layout a + room_with layout b)))
+      (conditional_long (shut c) (shut a) (shut b) (slots_with layout c) (slots_with layout a) (pc + length (flushed text)) slot (room_with layout c) (room_with layout a) (room_with layout b)
       (shut_long c (code_fits c [])) (shut_long a (code_fits a [])) (shut_long b (code_fits b [])))
   code_fits (absent a) text pc slot =
       let n = pc + length (flushed text) in
-      after_text_long text (absent_code (shut a)) pc slot (12 + room a)
-      (absent_long (shut a) n slot (room a) (shut_long a (code_fits a []) (n + 2) (slot + 2)))
-  code_fits (called k a) text pc slot = code_fits a text pc slot
+      after_text_long text (absent_code (shut a)) pc slot (12 + room_with layout a)
+      (absent_long (shut a) n slot (room_with layout a) (shut_long a (code_fits a []) (n + 2) (slot + 2)))
+  code_fits (called k a) text pc slot =
+      call_fits (layout k) (C a) (waits_with layout a text) text pc slot (room_with layout a) (code_fits a text pc slot)
 
 pub extent_op : (o : Op) (d : Draft) → extent (with_op o d) ≡ extent d + 1
 unfolding extent with_op
@@ -212,88 +237,93 @@ pub extent_nothing : (d : Draft) → d ≡ record { ops = []; text = [] } → ex
 unfolding extent
 extent_nothing d none = ap (λ (e : Draft). length e.ops + length (flushed e.text)) none
 
-pub extent_pat : (u w : Bool) (p : CorePattern) (slot : ℕ) (d : Draft) → extent (with_pat u w p slot d) ≤ extent d + room p
+pub extent_pat : (layout : Layout) (u w : Bool) (p : CorePattern) (slot : ℕ) (d : Draft) → extent (with_pat layout u w p slot d) ≤ extent d + room_with layout p
 unfolding extent with_pat
-extent_pat u w p slot d =
-    let code = code_of (in_class u) (folded u) w p d.text (length d.ops) slot in
-    omega (arith, code_fits u w p d.text (length d.ops) slot, length-append d.ops code)
+extent_pat layout u w p slot d =
+    let code = code_with (in_class u) (folded u) w layout p d.text (length d.ops) slot in
+    omega (arith, code_fits layout u w p d.text (length d.ops) slot, length-append d.ops code)
 
 -- what was written fits into the pattern's room
-pub took : {u w : Bool} {old new : Emitter} {slot after : ℕ} {p : CorePattern} → Wrote u w old new slot after p →
-    extent (draft_of new.body) ≤ extent (draft_of old.body) + room p
-took {u = u} {w = w} {old = old} {slot = slot} {p = p} h =
-    subst (λ d. extent d ≤ extent (draft_of old.body) + room p) (sym h.draft) (extent_pat u w p slot (draft_of old.body))
+pub took : {layout : Layout} {u w : Bool} {old new : Emitter} {slot after : ℕ} {p : CorePattern} → Wrote layout u w old new slot after p →
+    extent (draft_of new.body) ≤ extent (draft_of old.body) + room_with layout p
+took {layout = layout} {u = u} {w = w} {old = old} {slot = slot} {p = p} h =
+    subst (λ d. extent d ≤ extent (draft_of old.body) + room_with layout p) (sym h.draft) (extent_pat layout u w p slot (draft_of old.body))
 
 -- the room of each construct
-pub room_keep : room keep_out ≡ 12
-unfolding room
-room_keep = refl
+pub room_keep : (layout : Layout) → room_with layout keep_out ≡ 12
+unfolding room_with
+room_keep layout = refl
 
-pub room_fail : room fail ≡ 12
-unfolding room
-room_fail = refl
+pub room_fail : (layout : Layout) → room_with layout fail ≡ 12
+unfolding room_with
+room_fail layout = refl
 
-pub room_alt : (a b : CorePattern) → room (alt a b) ≡ 2 + (room a + room b)
-unfolding room
-room_alt a b = refl
+pub room_alt : (layout : Layout) (a b : CorePattern) → room_with layout (alt a b) ≡ 2 + (room_with layout a + room_with layout b)
+unfolding room_with
+room_alt layout a b = refl
 
-pub room_behind : (n : ℕ) (p : CorePattern) → room (cat (back n) p) ≡ 1 + room p
-unfolding room
-room_behind n p = refl
+pub room_behind : (layout : Layout) (n : ℕ) (p : CorePattern) → room_with layout (cat (back n) p) ≡ 1 + room_with layout p
+unfolding room_with
+room_behind layout n p = refl
 
-pub room_group : (k : ℕ) (p : CorePattern) → room (group k p) ≡ 12 + room p
-unfolding room
-room_group k p = refl
+pub room_group : (layout : Layout) (k : ℕ) (p : CorePattern) → room_with layout (group k p) ≡ 12 + room_with layout p
+unfolding room_with
+room_group layout k p = refl
 
-pub room_ahead : (p : CorePattern) → room (ahead p) ≡ 12 + room p
-unfolding room
-room_ahead p = refl
+pub room_ahead : (layout : Layout) (p : CorePattern) → room_with layout (ahead p) ≡ 12 + room_with layout p
+unfolding room_with
+room_ahead layout p = refl
 
-pub room_never : (p : CorePattern) → room (never p) ≡ 12 + room p
-unfolding room
-room_never p = refl
+pub room_never : (layout : Layout) (p : CorePattern) → room_with layout (never p) ≡ 12 + room_with layout p
+unfolding room_with
+room_never layout p = refl
 
-pub room_delegate : (t : Tree) (p : CorePattern) → room (delegate t p) ≡ 12
-unfolding room
-room_delegate t p = refl
+pub room_delegate : (layout : Layout) (t : Tree) (p : CorePattern) → room_with layout (delegate t p) ≡ 12
+unfolding room_with
+room_delegate layout t p = refl
 
-pub room_tail : (t : Tree) (p : CorePattern) → room (tail t p) ≡ 1 + room p
-unfolding room
-room_tail t p = refl
+pub room_tail : (layout : Layout) (t : Tree) (p : CorePattern) → room_with layout (tail t p) ≡ 1 + room_with layout p
+unfolding room_with
+room_tail layout t p = refl
 
-pub room_atomic : (p : CorePattern) → room (atomic p) ≡ 12 + room p
-unfolding room
-room_atomic p = refl
+pub room_atomic : (layout : Layout) (p : CorePattern) → room_with layout (atomic p) ≡ 12 + room_with layout p
+unfolding room_with
+room_atomic layout p = refl
 
-pub room_repeat : (p : CorePattern) (lo : ℕ) (hi : Option ℕ) (greedy : Bool) → room (repeat p lo hi greedy) ≡ 12 + room p
-unfolding room
-room_repeat p lo hi greedy = refl
+pub room_repeat : (layout : Layout) (p : CorePattern) (lo : ℕ) (hi : Option ℕ) (greedy : Bool) → room_with layout (repeat p lo hi greedy) ≡ 12 + room_with layout p
+unfolding room_with
+room_repeat layout p lo hi greedy = refl
 
-pub room_look : (t : Tree) (how : LookAround) (u : Written) → 12 ≤ room (look t how u)
-unfolding room
-room_look t LookAhead u = omega arith
-room_look t LookAheadNeg u = omega arith
-room_look t LookBehind u = omega arith
-room_look t LookBehindNeg u = omega arith
+pub room_look : (layout : Layout) (t : Tree) (how : LookAround) (u : Written) → 12 ≤ room_with layout (look t how u)
+unfolding room_with
+room_look layout t LookAhead u = omega arith
+room_look layout t LookAheadNeg u = omega arith
+room_look layout t LookBehind u = omega arith
+room_look layout t LookBehindNeg u = omega arith
 
-pub room_conditional : (c a b : CorePattern) → room (conditional c a b) ≡ 12 + (room c + (room a + room b))
-unfolding room
-room_conditional c a b = refl
+pub room_conditional : (layout : Layout) (c a b : CorePattern) → room_with layout (conditional c a b) ≡ 12 + (room_with layout c + (room_with layout a + room_with layout b))
+unfolding room_with
+room_conditional layout c a b = refl
 
-pub room_absent : (p : CorePattern) → room (absent p) ≡ 12 + room p
-unfolding room
-room_absent p = refl
+pub room_absent : (layout : Layout) (p : CorePattern) → room_with layout (absent p) ≡ 12 + room_with layout p
+unfolding room_with
+room_absent layout p = refl
 
-pub room_called : (k : ℕ) (p : CorePattern) → room (called k p) ≡ room p
-unfolding room
-room_called k p = refl
+-- a call that is written out, and one that stays
+pub room_called : (layout : Layout) (k : ℕ) (p : CorePattern) → layout k ≡ None → room_with layout (called k p) ≡ room_with layout p
+unfolding room_with
+room_called layout k p none = ap (λ o. room_at_call o (room_with layout p)) none
+
+pub room_stays : (layout : Layout) (k : ℕ) (c : Place) (p : CorePattern) → layout k ≡ Some c → room_with layout (called k p) ≡ 1
+unfolding room_with
+room_stays layout k c p some = ap (λ o. room_at_call o (room_with layout p)) some
 
 -- a node without children that is an instruction
-pub room_leaf : (u : Bool) (insn : Insn) (t : Tree) → IsInsn u insn t → (call : ℕ → CorePattern) (n : ℕ) (us : List Written) → 1 ≤ room (front_of call n t us)
-room_leaf u insn t is call n us =
+pub room_leaf : (layout : Layout) (u : Bool) (insn : Insn) (t : Tree) → IsInsn u insn t → (call : ℕ → CorePattern) (n : ℕ) (us : List Written) → 1 ≤ room_with layout (front_of call n t us)
+room_leaf layout u insn t is call n us =
     let d : Draft = record { ops = []; text = [] } in
     let p = front_of call n t us in
-    omega (arith, extent_pat u false p 0 d, ap extent (is.draft false call n 0 us d), extent_added (op_of insn) d)
+    omega (arith, extent_pat layout u false p 0 d, ap extent (is.draft layout false call n 0 us d), extent_added (op_of insn) d)
 
 -- a call that opens
 pub call_is : (groups : List InfoTree) (calls m : ℕ) (opened pushed : List ℕ) (k : ℕ) (x : InfoTree) → calls ≡ suc m → slice_get groups k ≡ Some x →
@@ -308,15 +338,16 @@ pub late : {T P : Type 0} (r : Result T CompileError) (e : CompileError) (low hi
 late r e low high is h step = gives r e (λ f. is_too_complex f ≡ true → low < high) is (λ too. step (h too))
 
 -- the same answer, where the pattern has another name
-pub full_same : {T : Type 0} (r : Result T CompileError) (old : ProgramBuilder) {p q : CorePattern} → q ≡ p → IfErr r (IsFull old (room p)) → IfErr r (IsFull old (room q))
-full_same r old is h = subst (λ x. IfErr r (IsFull old (room x))) (sym is) h
+pub full_same : {T : Type 0} (layout : Layout) (r : Result T CompileError) (old : ProgramBuilder) {p q : CorePattern} → q ≡ p → IfErr r (IsFull old (room_with layout p)) →
+    IfErr r (IsFull old (room_with layout q))
+full_same layout r old is h = subst (λ x. IfErr r (IsFull old (room_with layout x))) (sym is) h
 
 -- from as far back
-pub full_behind : {T : Type 0} (r : Result T CompileError) (old mid : ProgramBuilder) (n : ℕ) {p q : CorePattern} → q ≡ cat (back n) p → mid.cap ≡ old.cap →
-    extent (draft_of mid) ≡ extent (draft_of old) + 1 → IfErr r (IsFull mid (room p)) → IfErr r (IsFull old (room q))
-full_behind r old mid n {p = p} {q = q} is cap long h =
-    IfErr-weaker r (IsFull mid (room p)) (IsFull old (room q))
-    (λ e k too. let lt = k too in omega (arith, lt, cap, long, ap room is, room_behind n p)) h
+pub full_behind : {T : Type 0} (layout : Layout) (r : Result T CompileError) (old mid : ProgramBuilder) (n : ℕ) {p q : CorePattern} → q ≡ cat (back n) p → mid.cap ≡ old.cap →
+    extent (draft_of mid) ≡ extent (draft_of old) + 1 → IfErr r (IsFull mid (room_with layout p)) → IfErr r (IsFull old (room_with layout q))
+full_behind layout r old mid n {p = p} {q = q} is cap long h =
+    IfErr-weaker r (IsFull mid (room_with layout p)) (IsFull old (room_with layout q))
+    (λ e k too. let lt = k too in omega (arith, lt, cap, long, ap (room_with layout) is, room_behind layout n p)) h
 
 -- text that waits takes one instruction
 pub flushed_full : (ops : List Op) (t s : Text) → s ≡ [] → flushed t ≡ op.lit t ∷ [] →

@@ -7,11 +7,13 @@ use Rattle.fancy_regex_meaning.specs.Sizes.{unbounded, bound_of}
 use Rattle.std.proofs.lemmas.Bool.Decides.{nat_tests}
 use Rattle.fancy_regex_desugar.specs.Unfolded.{repeated, pat_for}
 use Rattle.fancy_regex_info.specs.Infos.{InfoTree}
+use Rattle.fancy_regex_program.specs.Code.{Layout}
 use Rattle.fancy_regex_program.specs.Ops as op
+use Rattle.fancy_regex_program.specs.Ops.{Place}
 use Rattle.fancy_regex_compiler.specs.Known.{info_written, info_call}
 use Rattle.fancy_regex_compiler.specs.Writing.{Draft, draft_of, added, with_pat, Wrote}
 use Rattle.fancy_regex_compiler.specs.declared.emitter.Emitter.{Emitter}
-use Rattle.fancy_regex_compiler.proofs.Drafts.{pat_nothing, pat_fail, pat_called}
+use Rattle.fancy_regex_compiler.proofs.Drafts.{pat_nothing, pat_fail, pat_called, slots_called, pat_stays, slots_stays}
 
 -- What is repeated no times is nothing.
 pub repeated_never : (p : CorePattern) (lo hi : ℕ) (greedy : Bool) → lo ≤ hi → hi ≡ 0 → repeated p lo hi greedy ≡ nothing
@@ -34,33 +36,42 @@ pub repeated_counted : (p : CorePattern) (lo hi : ℕ) (greedy : Bool) → lo �
 repeated_counted p lo hi greedy le some counted =
     repeated_some p lo hi greedy le some ∙ ap (λ b. repeat p lo (cond b None (Some hi)) greedy) (let other : (hi == unbounded) ≡ false = grind (arith, nat_tests, counted) in other)
 
-module _ (u w : Bool) where
+module _ (layout : Layout) (u w : Bool) where
   abbrev P : CorePattern → ℕ → Draft → Draft
-  P = with_pat u w
+  P = with_pat layout u w
 
-  pub wrote_nothing : (e : Emitter) (slot : ℕ) (p : CorePattern) → p ≡ nothing → Wrote u w e e slot slot p
-  wrote_nothing e slot p is = subst (λ x. Wrote u w e e slot slot x) (sym is) (record {
-    draft = sym (pat_nothing u w slot (draft_of e.body));
+  pub wrote_nothing : (e : Emitter) (slot : ℕ) (p : CorePattern) → p ≡ nothing → Wrote layout u w e e slot slot p
+  wrote_nothing e slot p is = subst (λ x. Wrote layout u w e e slot slot x) (sym is) (record {
+    draft = sym (pat_nothing layout u w slot (draft_of e.body));
     slots = omega arith;
     opened = refl;
   })
 
   pub wrote_fail : (old new : Emitter) (slot : ℕ) (p : CorePattern) → p ≡ fail → draft_of new.body ≡ added op.fail (draft_of old.body) →
-      new.opened.items ≡ old.opened.items → Wrote u w old new slot slot p
-  wrote_fail old new slot p is drew opened = subst (λ x. Wrote u w old new slot slot x) (sym is) (record {
-    draft = drew ∙ sym (pat_fail u w slot (draft_of old.body));
+      new.opened.items ≡ old.opened.items → Wrote layout u w old new slot slot p
+  wrote_fail old new slot p is drew opened = subst (λ x. Wrote layout u w old new slot slot x) (sym is) (record {
+    draft = drew ∙ sym (pat_fail layout u w slot (draft_of old.body));
     slots = omega arith;
     opened = opened;
   })
 
   -- a call that fails
-  pub wrote_no_call : (old new : Emitter) (slot k : ℕ) (p : CorePattern) → p ≡ called k fail → draft_of new.body ≡ added op.fail (draft_of old.body) →
-      new.opened.items ≡ old.opened.items → Wrote u w old new slot slot p
-  wrote_no_call old new slot k p is drew opened = subst (λ x. Wrote u w old new slot slot x) (sym is) (record {
-    draft = drew ∙ sym (pat_fail u w slot (draft_of old.body)) ∙ sym (pat_called u w k fail slot (draft_of old.body));
-    slots = omega arith;
+  pub wrote_no_call : (old new : Emitter) (slot k : ℕ) (p : CorePattern) → layout k ≡ None → p ≡ called k fail → draft_of new.body ≡ added op.fail (draft_of old.body) →
+      new.opened.items ≡ old.opened.items → Wrote layout u w old new slot slot p
+  wrote_no_call old new slot k p none is drew opened = subst (λ x. Wrote layout u w old new slot slot x) (sym is) (record {
+    draft = drew ∙ sym (pat_fail layout u w slot (draft_of old.body)) ∙ sym (pat_called layout u w k fail slot (draft_of old.body) none);
+    slots = omega (arith, slots_called layout u w k fail none);
     opened = opened;
   })
+
+  -- a call that stays
+  pub wrote_kept_call : (old new : Emitter) (slot k : ℕ) (c : Place) (p : CorePattern) → layout k ≡ Some c → draft_of new.body ≡ added (op.call c) (draft_of old.body) →
+      new.opened.items ≡ old.opened.items → Wrote layout u w old new slot slot (called k p)
+  wrote_kept_call old new slot k c p some drew opened = record {
+    draft = drew ∙ sym (pat_stays layout u w k c p slot (draft_of old.body) some);
+    slots = omega (arith, slots_stays layout u w k c p some);
+    opened = opened;
+  }
 
 -- a call past the limit of open calls, and one that opens
 pub call_full : (groups : List InfoTree) (m : ℕ) (opened : List ℕ) (k : ℕ) → is_at_call_limit opened k ≡ true → info_call groups m opened k ≡ called k fail
@@ -79,3 +90,11 @@ unfolding info_call
 call_opens groups m opened k x free at =
     let inside = λ (y : InfoTree). (info_written (info_call groups m (opened ++ k ∷ [])) y).front in
     ap (λ b. called k (cond b fail (pat_for inside (slice_get groups k)))) free ∙ ap (λ o. called k (pat_for inside o)) at
+
+-- A call is one whatever stands for its body.
+pub call_shape : (groups : List InfoTree) (m : ℕ) (opened : List ℕ) (k : ℕ) → (p : CorePattern) × (info_call groups m opened k ≡ called k p)
+unfolding info_call
+call_shape groups zero opened k = (fail, refl)
+call_shape groups (suc m) opened k =
+    let inside = pat_for (λ x. (info_written (info_call groups m (opened ++ k ∷ [])) x).front) (slice_get groups k) in
+    (cond (is_at_call_limit opened k) fail inside, refl)

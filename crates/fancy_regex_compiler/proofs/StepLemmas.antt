@@ -7,23 +7,23 @@ use Rattle.std.specs.Borrow.{Bor}
 use Rattle.fancy_regex_tree.specs.declared.expr.Expr.{Expr}
 use Rattle.fancy_regex_class.specs.Classes.{in_class, folded}
 use Rattle.fancy_regex_desugar.specs.CorePatterns.{CorePattern, cat, alt, back, conditional}
-use Rattle.fancy_regex_desugar.specs.ProgramSizes.{room}
 use Rattle.fancy_regex_info.specs.Infos.{InfoTree, info_of}
 use Rattle.fancy_regex_info.specs.declared.error.CompileError.{CompileError}
 use Rattle.fancy_regex_info.specs.declared.error.CompileError.TheVariants.{PatternTooComplex, Memory}
 use Rattle.fancy_regex_info.specs.declared.info.Info.{Info}
 use Rattle.fancy_regex_program.specs.Ops as op
 use Rattle.fancy_regex_program.specs.Ops.{Op}
-use Rattle.fancy_regex_program.specs.Code.{waits, flushed, slots_in, is_uncounted, loop_entry, loop_head, code_of}
+use Rattle.fancy_regex_program.specs.Code.{Layout, waits_with, flushed, slots_with, is_uncounted, loop_entry, loop_head, code_with}
 use Rattle.fancy_regex_compiler.specs.Extents.{extent, IsFull}
 use Rattle.fancy_regex_compiler.specs.Refusals.{TreeContext, IsAnalyzed, IsExpandedPart, IsReasonWhere, IsMemoryOrTooComplex}
-use Rattle.fancy_regex_program.specs.Shapes.{IsAllowed}
-use Rattle.fancy_regex_compiler.specs.Tasks.{Progress, progress, closed_by, closing_room, at_others, listed, opened_after, opened_after_all, node_pattern, body_pattern, row_pattern, whole_pattern, past_pattern, past, past_all, task_room, tasks_room, IsAllowedTask, AreAllowedTasks, IsExpandedTask, AreExpandedTasks, Leads, LeadsTo, LeadsOn, tasks_work}
-use Rattle.fancy_regex_compiler.specs.Writing.{Draft, draft_of, with_op, closed_draft, added, patched, with_pat, with_choice, Wrote, infos_of}
+use Rattle.fancy_regex_compiler.specs.Needs.{AreAmong, Notes}
+use Rattle.fancy_regex_compiler.specs.Tasks.{Progress, progress, closed_by, closing_room, at_others, listed, opened_after, opened_after_all, node_pattern, body_pattern, row_pattern, whole_pattern, past_pattern, past, past_all, room_of, task_room, tasks_room, IsLetThrough, IsAllowedTask, AreAllowedTasks, IsExpandedTask, AreExpandedTasks, Leads, LeadsTo, LeadsOn, EmitsAll, tasks_work}
+use Rattle.fancy_regex_compiler.specs.Writing.{Draft, draft_of, with_op, closed_draft, added, patched, with_pat, with_choice, layout_of, Wrote, infos_of}
 use Rattle.fancy_regex_compiler.specs.declared.closing.Closing.{Closing}
 use Rattle.fancy_regex_compiler.specs.declared.closing.Closing.TheVariants as ends
 use Rattle.fancy_regex_compiler.specs.declared.emitter.CompileContext.{CompileContext}
 use Rattle.fancy_regex_compiler.specs.declared.emitter.Emitter.{Emitter}
+use Rattle.fancy_regex_compiler.specs.declared.emitter.Need.{Need}
 use Rattle.fancy_regex_compiler.specs.declared.emitter.Scope.{Scope}
 use Rattle.fancy_regex_compiler.specs.declared.program_builder.ProgramBuilder.{ProgramBuilder}
 use Rattle.fancy_regex_compiler.specs.declared.task.Task.{Task}
@@ -33,6 +33,7 @@ use Rattle.fancy_regex_compiler.specs.declared.task.Step.{Step}
 use Rattle.fancy_regex_compiler.proofs.Drafts.{same_draft, pat_cat, pat_back, length_with_op}
 use Rattle.fancy_regex_compiler.proofs.Branches.{bare, pat_alt, choice_goes_on}
 use Rattle.fancy_regex_compiler.proofs.EmitLemmas.{drew_conditional}
+use Rattle.fancy_regex_compiler.proofs.NeedLemmas.{none_noted, same_noted, both_noted, notes_weaker, notes_after, among_before}
 use Rattle.fancy_regex_compiler.proofs.RoomLemmas.{room_behind, extent_op, extent_closed, extent_patched, extent_ended}
 
 pub same_progress : {d e : Draft} {s t : ℕ} {o p : List ℕ} → d ≡ e → s ≡ t → o ≡ p →
@@ -112,17 +113,24 @@ module _ (context : CompileContext) where
       let here = ap (task_room context t) (opened_after_both ts us o) in
       omega (arith, here, room_both ts us o)
 
-  allowed_first : (ts us : List Task) (o : List ℕ) → AreAllowedTasks context (ts ++ us) o → AreAllowedTasks context ts (opened_after_all us o)
-  allowed_first [] us o h = tt
-  allowed_first (t ∷ ts) us o h = (subst (IsAllowedTask context t) (opened_after_both ts us o) h.0, allowed_first ts us o h.1)
+  module _ (all : List Need) where
+    abbrev may : Task → List ℕ → Type 0
+    may t o = IsAllowedTask context t o all
 
-  allowed_second : (ts us : List Task) (o : List ℕ) → AreAllowedTasks context (ts ++ us) o → AreAllowedTasks context us o
-  allowed_second [] us o h = h
-  allowed_second (t ∷ ts) us o h = allowed_second ts us o h.1
+    abbrev each : List Task → List ℕ → Type 0
+    each ts o = AreAllowedTasks context ts o all
 
-  allowed_both : (ts us : List Task) (o : List ℕ) → AreAllowedTasks context ts (opened_after_all us o) → AreAllowedTasks context us o → AreAllowedTasks context (ts ++ us) o
-  allowed_both [] us o h k = k
-  allowed_both (t ∷ ts) us o h k = (subst (IsAllowedTask context t) (sym (opened_after_both ts us o)) h.0, allowed_both ts us o h.1 k)
+    allowed_first : (ts us : List Task) (o : List ℕ) → each (ts ++ us) o → each ts (opened_after_all us o)
+    allowed_first [] us o h = tt
+    allowed_first (t ∷ ts) us o h = (subst (may t) (opened_after_both ts us o) h.0, allowed_first ts us o h.1)
+
+    allowed_second : (ts us : List Task) (o : List ℕ) → each (ts ++ us) o → each us o
+    allowed_second [] us o h = h
+    allowed_second (t ∷ ts) us o h = allowed_second ts us o h.1
+
+    allowed_both : (ts us : List Task) (o : List ℕ) → each ts (opened_after_all us o) → each us o → each (ts ++ us) o
+    allowed_both [] us o h k = k
+    allowed_both (t ∷ ts) us o h k = (subst (may t) (sym (opened_after_both ts us o)) h.0, allowed_both ts us o h.1 k)
 
 pub expanded_first : (tree_context : TreeContext) (ts us : List Task) → AreExpandedTasks tree_context (ts ++ us) → AreExpandedTasks tree_context ts
 expanded_first tree_context [] us h = tt
@@ -141,7 +149,7 @@ work_both groups [] us = omega arith
 work_both groups (t ∷ ts) us = omega (arith, work_both groups ts us)
 
 -- One task is taken, and those that it leads to are left in its place.
-pub leads_on : (context : CompileContext) (old mid new : Emitter) (slot now : ℕ) (rest left : List Task) (t : Task) (step : Step) (end : Progress) (A : Type 0) (m : ℕ)
+pub leads_on : (context : CompileContext) (old mid new : Emitter) (slot now : ℕ) (rest left : List Task) (t : Task) (step : Step) (end : Progress) (A : List Need → Type 0) (m : ℕ)
     (S : TreeContext → Type 0) → left ≡ rest ++ t ∷ [] → Leads context old mid slot now left end A m S → LeadsOn context t mid new now step →
     Leads context old new slot step.slot (rest ++ listed step.tasks) end A m S
 leads_on context old mid new slot now rest left t step end A m S is h k =
@@ -153,21 +161,27 @@ leads_on context old mid new slot now rest left t step end A m S is h k =
     record {
       ends = past_both context rest ts after ∙ ap (past_all context rest) k.ends ∙ sym (past_both context rest (t ∷ []) was)
           ∙ ap (λ xs. past_all context xs was) (sym is) ∙ h.ends;
-      allowed = λ some.
-          let first = allowed_first context rest ts new.opened.items some in
-          let second = allowed_second context rest ts new.opened.items some in
-          let this : IsAllowedTask context t mid.opened.items = k.allowed second in
-          h.allowed (subst (λ xs. AreAllowedTasks context xs mid.opened.items) (sym is)
-          (allowed_both context rest (t ∷ []) mid.opened.items (subst (AreAllowedTasks context rest) opened first) (this, tt)));
+      allowed = λ all among some.
+          let first = allowed_first context all rest ts new.opened.items some in
+          let second = allowed_second context all rest ts new.opened.items some in
+          let this : IsAllowedTask context t mid.opened.items all = k.allowed all among second in
+          let before = among_before (infos_of context) mid.needs.items new.needs.items all (λ tree_context. IsExpandedTask tree_context t) k.notes among in
+          h.allowed all before (subst (λ xs. AreAllowedTasks context xs mid.opened.items all) (sym is)
+          (allowed_both context all rest (t ∷ []) mid.opened.items (subst (λ o. AreAllowedTasks context rest o all) opened first) (this, tt)));
       fits =
           let rooms = ap (λ xs. tasks_room context xs mid.opened.items) is in
           let here = ap (tasks_room context rest) opened in
           omega (arith, h.fits, k.fits, rooms, here, room_both context rest ts new.opened.items, room_both context rest (t ∷ []) mid.opened.items);
       stands = λ tree_context s stand.
-          let all : AreExpandedTasks tree_context (rest ++ t ∷ []) = subst (AreExpandedTasks tree_context) is (h.stands tree_context s stand) in
+          let all = standing tree_context s stand in
           let last = expanded_second tree_context rest (t ∷ []) all in
           expanded_both tree_context rest ts (expanded_first tree_context rest (t ∷ []) all) (k.stands tree_context s last.0);
+      notes = both_noted (infos_of context) old.needs.items mid.needs.items new.needs.items S (λ tree_context. IsExpandedTask tree_context t) h.notes
+          (λ tree_context s stand. (expanded_second tree_context rest (t ∷ []) (standing tree_context s stand)).0) k.notes;
     }
+  where
+    standing : (tree_context : TreeContext) → IsAnalyzed tree_context (infos_of context) → S tree_context → AreExpandedTasks tree_context (rest ++ t ∷ [])
+    standing tree_context s stand = subst (AreExpandedTasks tree_context) is (h.stands tree_context s stand)
 
 -- the room of the next task
 pub last_room : (context : CompileContext) (rest left : List Task) (t : Task) (o : List ℕ) → left ≡ rest ++ t ∷ [] → task_room context t o ≤ tasks_room context left o
@@ -175,13 +189,25 @@ last_room context rest left t o is =
     let rooms = ap (λ xs. tasks_room context xs o) is in
     omega (arith, rooms, room_both context rest (t ∷ []) o)
 
--- where nothing is left
-pub leads_there : (context : CompileContext) (old new : Emitter) (slot after : ℕ) (p : CorePattern) (A : Type 0) (m : ℕ) (S : TreeContext → Type 0) →
-    Leads context old new slot after [] (past_pattern context p (progress old slot)) A m S → Wrote context.unicode context.whole old new slot after p
-leads_there context old new slot after p A m S h = record {
-  draft = ap (λ (s : Progress). s.draft) h.ends;
-  slots = ap (λ (s : Progress). s.slot) h.ends;
-  opened = ap (λ (s : Progress). s.opened) h.ends;
+-- where all of a task is emitted that is a pattern
+pub emits_all : (context : CompileContext) (p : CorePattern) (keeps : Bool) (S : TreeContext → Type 0) (old new : Emitter) (slot : ℕ) (r : Result ℕ CompileError) →
+    new.body.cap ≡ old.body.cap → IfOk r (λ after. progress new after ≡ past_pattern context p (progress old slot)) →
+    IfOk r (λ after. (all : List Need) → AreAmong new.needs.items all → IsLetThrough context keeps p all) →
+    IfOk r (λ after. Notes (infos_of context) old.needs.items new.needs.items S) → IfErr r (IsFull old.body (room_of context p)) →
+    IfErr r (IsReasonWhere context.unicode (infos_of context) S) → EmitsAll context p keeps S old new slot r
+emits_all context p keeps S old new slot r cap ends allowed notes full refused = record {
+  cap = cap;
+  wrote = IfOk-weaker r (λ after. progress new after ≡ past_pattern context p (progress old slot))
+      (λ after. Wrote (layout_of context) context.unicode context.whole old new slot after p)
+      (λ after h. record {
+        draft = ap (λ (s : Progress). s.draft) h;
+        slots = ap (λ (s : Progress). s.slot) h;
+        opened = ap (λ (s : Progress). s.opened) h;
+      }) ends;
+  allowed = allowed;
+  notes = notes;
+  full = full;
+  refused = refused;
 }
 
 -- the same step, where the pattern has another name and stands where more is known
@@ -191,7 +217,13 @@ pub leads_as : (r : Result Step CompileError) (context : CompileContext) (old ne
 leads_as r context old new slot keeps p q A B is f h =
     subst (λ x. IfOk r (LeadsTo context x keeps B old new slot)) (sym is)
     (IfOk-weaker r (LeadsTo context p keeps A old new slot) (LeadsTo context p keeps B old new slot)
-    (λ step k. record { ends = k.ends; allowed = k.allowed; fits = k.fits; stands = λ tree_context s b. k.stands tree_context s (f tree_context s b) }) h)
+    (λ step k. record {
+      ends = k.ends;
+      allowed = k.allowed;
+      fits = k.fits;
+      stands = λ tree_context s b. k.stands tree_context s (f tree_context s b);
+      notes = notes_weaker (infos_of context) old.needs.items new.needs.items A B f k.notes;
+    }) h)
 
 pub leads_as_any : (r : Result Step CompileError) (context : CompileContext) (old new : Emitter) (slot : ℕ) (keeps : Bool) (p : CompileContext → CorePattern) (q : CorePattern)
     (A B : TreeContext → Type 0) → q ≡ p context →
@@ -211,115 +243,129 @@ leads_each r old new slot keeps p q A B is f h =
 
 -- a step to nothing more
 pub leads_nowhere : (context : CompileContext) (old new : Emitter) (slot : ℕ) (keeps : Bool) (p : CorePattern) (S : TreeContext → Type 0) →
-    Wrote context.unicode context.whole old new slot slot p → extent (draft_of new.body) ≤ extent (draft_of old.body) + room p → IsAllowed context.unicode keeps p →
-    Leads context old new slot slot [] (past_pattern context p (progress old slot)) (IsAllowed context.unicode keeps p) (room p) S
-leads_nowhere context old new slot keeps p S h fits allowed = record {
+    Wrote (layout_of context) context.unicode context.whole old new slot slot p → extent (draft_of new.body) ≤ extent (draft_of old.body) + room_of context p →
+    ((all : List Need) → AreAmong new.needs.items all → IsLetThrough context keeps p all) → Notes (infos_of context) old.needs.items new.needs.items S →
+    Leads context old new slot slot [] (past_pattern context p (progress old slot)) (IsLetThrough context keeps p) (room_of context p) S
+leads_nowhere context old new slot keeps p S h fits allowed notes = record {
   ends = same_progress h.draft h.slots h.opened;
-  allowed = λ _. allowed;
+  allowed = λ all among _. allowed all among;
   fits = omega (arith, fits);
   stands = λ tree_context s stand. tt;
+  notes = notes;
 }
 
 -- the same, of the step
 pub leads_nothing : (context : CompileContext) (old new : Emitter) (slot : ℕ) (keeps : Bool) (p : CorePattern) (S : TreeContext → Type 0) (step : Step) →
-    step ≡ record { slot = slot; tasks = tasks.Nothing } → Wrote context.unicode context.whole old new slot slot p →
-    extent (draft_of new.body) ≤ extent (draft_of old.body) + room p → IsAllowed context.unicode keeps p → LeadsTo context p keeps S old new slot step
-leads_nothing context old new slot keeps p S step is h fits allowed =
-    subst (λ r. LeadsTo context p keeps S old new slot r) (sym is) (leads_nowhere context old new slot keeps p S h fits allowed)
+    step ≡ record { slot = slot; tasks = tasks.Nothing } → Wrote (layout_of context) context.unicode context.whole old new slot slot p →
+    extent (draft_of new.body) ≤ extent (draft_of old.body) + room_of context p →
+    ((all : List Need) → AreAmong new.needs.items all → IsLetThrough context keeps p all) → Notes (infos_of context) old.needs.items new.needs.items S →
+    LeadsTo context p keeps S old new slot step
+leads_nothing context old new slot keeps p S step is h fits allowed notes =
+    subst (λ r. LeadsTo context p keeps S old new slot r) (sym is) (leads_nowhere context old new slot keeps p S h fits allowed notes)
 
 -- a step to one task that is all of it
 pub leads_one : (context : CompileContext) (e : Emitter) (slot : ℕ) (keeps : Bool) (p q : CorePattern) (t : Task) (S : TreeContext → Type 0) → q ≡ p →
-    past context t (progress e slot) ≡ past_pattern context p (progress e slot) → (IsAllowedTask context t e.opened.items → IsAllowed context.unicode keeps p) →
-    opened_after t e.opened.items ≡ e.opened.items → task_room context t e.opened.items ≤ room p →
+    past context t (progress e slot) ≡ past_pattern context p (progress e slot) → ((all : List Need) → IsAllowedTask context t e.opened.items all → IsLetThrough context keeps p all) →
+    opened_after t e.opened.items ≡ e.opened.items → task_room context t e.opened.items ≤ room_of context p →
     ((tree_context : TreeContext) → IsAnalyzed tree_context (infos_of context) → S tree_context → IsExpandedTask tree_context t) →
-    Leads context e e slot slot (t ∷ []) (past_pattern context q (progress e slot)) (IsAllowed context.unicode keeps q) (room q) S
+    Leads context e e slot slot (t ∷ []) (past_pattern context q (progress e slot)) (IsLetThrough context keeps q) (room_of context q) S
 leads_one context e slot keeps p q t S is ends allowed opened fits stands =
-    subst (λ x. Leads context e e slot slot (t ∷ []) (past_pattern context x (progress e slot)) (IsAllowed context.unicode keeps x) (room x) S) (sym is) (record {
+    subst (λ x. Leads context e e slot slot (t ∷ []) (past_pattern context x (progress e slot)) (IsLetThrough context keeps x) (room_of context x) S) (sym is) (record {
       ends = ends;
-      allowed = λ h. allowed h.0;
+      allowed = λ all among h. allowed all h.0;
       fits = omega (arith, fits);
       stands = λ tree_context s stand. (stands tree_context s stand, tt);
+      notes = none_noted (infos_of context) e.needs.items S;
     })
 
 -- the same, of the step
 pub leads_one_step : (context : CompileContext) (e : Emitter) (slot : ℕ) (keeps : Bool) (p q : CorePattern) (t : Task) (S : TreeContext → Type 0) (step : Step) → q ≡ p →
     step ≡ record { slot = slot; tasks = tasks.One t } →
-    past context t (progress e slot) ≡ past_pattern context p (progress e slot) → (IsAllowedTask context t e.opened.items → IsAllowed context.unicode keeps p) →
-    opened_after t e.opened.items ≡ e.opened.items → task_room context t e.opened.items ≤ room p →
+    past context t (progress e slot) ≡ past_pattern context p (progress e slot) → ((all : List Need) → IsAllowedTask context t e.opened.items all → IsLetThrough context keeps p all) →
+    opened_after t e.opened.items ≡ e.opened.items → task_room context t e.opened.items ≤ room_of context p →
     ((tree_context : TreeContext) → IsAnalyzed tree_context (infos_of context) → S tree_context → IsExpandedTask tree_context t) → LeadsTo context q keeps S e e slot step
 leads_one_step context e slot keeps p q t S step is step_is ends allowed opened fits stands =
     subst (λ r. LeadsTo context q keeps S e e slot r) (sym step_is) (leads_one context e slot keeps p q t S is ends allowed opened fits stands)
 
 -- where all is left
-pub leads_begin : (context : CompileContext) (e : Emitter) (slot : ℕ) (info : Bor Info) (scope : Scope) (left : List Task) → left ≡ task.Whole info scope ∷ [] →
-    (let p = whole_pattern context info.now scope e.opened.items in
-    Leads context e e slot slot left (past_pattern context p (progress e slot)) (IsAllowed context.unicode scope.may_keep p) (room p)
-    (λ tree_context. IsExpandedPart tree_context scope.may_keep scope.may_be_absent false (info_of info.now)))
-leads_begin context e slot info scope left is =
-    let p = whole_pattern context info.now scope e.opened.items in
-    let S = λ (tree_context : TreeContext). IsExpandedPart tree_context scope.may_keep scope.may_be_absent false (info_of info.now) in
-    subst (λ xs. Leads context e e slot slot xs (past_pattern context p (progress e slot)) (IsAllowed context.unicode scope.may_keep p) (room p) S) (sym is)
-    (leads_one context e slot scope.may_keep p p (task.Whole info scope) S refl refl (λ h. h) refl (omega arith) (λ tree_context s stand. stand))
+pub leads_begin : (context : CompileContext) (e : Emitter) (slot : ℕ) (t : Task) (left : List Task) → left ≡ t ∷ [] →
+    Leads context e e slot slot left (past context t (progress e slot)) (IsAllowedTask context t e.opened.items) (task_room context t e.opened.items)
+    (λ tree_context. IsExpandedTask tree_context t)
+leads_begin context e slot t left is =
+    let S = λ (tree_context : TreeContext). IsExpandedTask tree_context t in
+    subst (λ xs. Leads context e e slot slot xs (past context t (progress e slot)) (IsAllowedTask context t e.opened.items) (task_room context t e.opened.items) S) (sym is)
+    (record {
+      ends = refl;
+      allowed = λ all among h. h.0;
+      fits = omega arith;
+      stands = λ tree_context s stand. (stand, tt);
+      notes = none_noted (infos_of context) e.needs.items S;
+    })
 
 -- the same step, from as far back as it is long
 pub leads_back : (r : Result Step CompileError) (context : CompileContext) (old mid new : Emitter) (slot : ℕ) (keeps : Bool) (n : ℕ) (p q : CorePattern) (A B : TreeContext → Type 0) →
-    q ≡ cat (back n) p → draft_of mid.body ≡ added (op.go_back n) (draft_of old.body) → mid.opened.items ≡ old.opened.items →
+    q ≡ cat (back n) p → draft_of mid.body ≡ added (op.go_back n) (draft_of old.body) → mid.opened.items ≡ old.opened.items → mid.needs.items ≡ old.needs.items →
     extent (draft_of mid.body) ≡ extent (draft_of old.body) + 1 →
     ((tree_context : TreeContext) → IsAnalyzed tree_context (infos_of context) → B tree_context → A tree_context) →
     IfOk r (LeadsTo context p keeps A mid new slot) → IfOk r (LeadsTo context q keeps B old new slot)
-leads_back r context old mid new slot keeps n p q A B is drew opened long f h =
+leads_back r context old mid new slot keeps n p q A B is drew opened needs long f h =
+    let layout = layout_of context in
     let u = context.unicode in
     let w = context.whole in
     let none : slot ≡ slot + 0 = omega arith in
-    let drawn : with_pat u w p slot (draft_of mid.body) ≡ with_pat u w (cat (back n) p) slot (draft_of old.body) =
-    ap₂ (λ s d. with_pat u w p s d) none (drew ∙ sym (pat_back u w n slot (draft_of old.body))) ∙ sym (pat_cat u w (back n) p slot (draft_of old.body)) in
+    let drawn : with_pat layout u w p slot (draft_of mid.body) ≡ with_pat layout u w (cat (back n) p) slot (draft_of old.body) =
+    ap₂ (λ s d. with_pat layout u w p s d) none (drew ∙ sym (pat_back layout u w n slot (draft_of old.body))) ∙ sym (pat_cat layout u w (back n) p slot (draft_of old.body)) in
     subst (λ x. IfOk r (LeadsTo context x keeps B old new slot)) (sym is)
     (IfOk-weaker r (LeadsTo context p keeps A mid new slot) (LeadsTo context (cat (back n) p) keeps B old new slot)
     (λ step k. record {
       ends = k.ends ∙ same_progress drawn (omega arith) opened;
-      allowed = λ some. (tt, k.allowed some);
-      fits = omega (arith, k.fits, long, room_behind n p);
+      allowed = λ all among some. (tt, k.allowed all among some);
+      fits = omega (arith, k.fits, long, room_behind layout n p);
       stands = λ tree_context s b. k.stands tree_context s (f tree_context s b);
+      notes = notes_after (infos_of context) old.needs.items mid.needs.items new.needs.items B needs
+          (notes_weaker (infos_of context) mid.needs.items new.needs.items A B f k.notes);
     }) h)
 
 -- a step to a part of a construct, and to its end
 pub leads_enclosed_node : (context : CompileContext) (old new : Emitter) (slot : ℕ) (keeps : Bool) (p : CorePattern) (S : TreeContext → Type 0) (step : Step) (inside : ℕ) (c : Closing)
     (info : Bor Info) (steps_back : Bool) (scope : Scope) → listed step.tasks ≡ task.Close c ∷ task.Node info steps_back scope ∷ [] → step.slot ≡ inside →
-    closed_by c (with_pat context.unicode context.whole (node_pattern context info.now steps_back scope new.opened.items) inside (draft_of new.body))
-    ≡ with_pat context.unicode context.whole p slot (draft_of old.body) →
-    inside + slots_in (node_pattern context info.now steps_back scope new.opened.items) ≡ slot + slots_in p → new.opened.items ≡ old.opened.items →
-    (IsAllowed context.unicode scope.may_keep (node_pattern context info.now steps_back scope new.opened.items) → IsAllowed context.unicode keeps p) →
-    extent (draft_of new.body) + (closing_room c + room (node_pattern context info.now steps_back scope new.opened.items)) ≤ extent (draft_of old.body) + room p →
+    closed_by c (with_pat (layout_of context) context.unicode context.whole (node_pattern context info.now steps_back scope new.opened.items) inside (draft_of new.body))
+    ≡ with_pat (layout_of context) context.unicode context.whole p slot (draft_of old.body) →
+    inside + slots_with (layout_of context) (node_pattern context info.now steps_back scope new.opened.items) ≡ slot + slots_with (layout_of context) p → new.opened.items ≡ old.opened.items → new.needs.items ≡ old.needs.items →
+    ((all : List Need) → IsLetThrough context scope.may_keep (node_pattern context info.now steps_back scope new.opened.items) all → IsLetThrough context keeps p all) →
+    extent (draft_of new.body) + (closing_room c + room_of context (node_pattern context info.now steps_back scope new.opened.items)) ≤ extent (draft_of old.body) + room_of context p →
     ((tree_context : TreeContext) → IsAnalyzed tree_context (infos_of context) → S tree_context → IsExpandedTask tree_context (task.Node info steps_back scope)) →
     LeadsTo context p keeps S old new slot step
-leads_enclosed_node context old new slot keeps p S step inside c info steps_back scope is at drew slots opened allowed fits stands =
+leads_enclosed_node context old new slot keeps p S step inside c info steps_back scope is at drew slots opened needs allowed fits stands =
     let end = past_pattern context p (progress old slot) in
-    subst (λ k. Leads context old new slot k (listed step.tasks) end (IsAllowed context.unicode keeps p) (room p) S) (sym at)
-    (subst (λ ts. Leads context old new slot inside ts end (IsAllowed context.unicode keeps p) (room p) S) (sym is) (record {
+    subst (λ k. Leads context old new slot k (listed step.tasks) end (IsLetThrough context keeps p) (room_of context p) S) (sym at)
+    (subst (λ ts. Leads context old new slot inside ts end (IsLetThrough context keeps p) (room_of context p) S) (sym is) (record {
       ends = same_progress drew slots opened;
-      allowed = λ h. allowed h.1.0;
+      allowed = λ all among h. allowed all h.1.0;
       fits = omega (arith, fits);
       stands = λ tree_context s stand. (tt, (stands tree_context s stand, tt));
+      notes = same_noted (infos_of context) old.needs.items new.needs.items S needs;
     }))
 
 -- the same of a body of which only the first way counts
 pub leads_enclosed_body : (context : CompileContext) (old new : Emitter) (slot : ℕ) (keeps : Bool) (p : CorePattern) (S : TreeContext → Type 0) (step : Step) (inside : ℕ) (c : Closing)
     (for_any : Bool) (body : Bor Expr) (info : Bor Info) (scope : Scope) → listed step.tasks ≡ task.Close c ∷ task.Body body for_any info scope ∷ [] → step.slot ≡ inside →
-    closed_by c (with_pat context.unicode context.whole (body_pattern context for_any body.now info.now scope new.opened.items) inside (draft_of new.body))
-    ≡ with_pat context.unicode context.whole p slot (draft_of old.body) →
-    inside + slots_in (body_pattern context for_any body.now info.now scope new.opened.items) ≡ slot + slots_in p → new.opened.items ≡ old.opened.items →
-    (IsAllowed context.unicode scope.may_keep (body_pattern context for_any body.now info.now scope new.opened.items) → IsAllowed context.unicode keeps p) →
-    extent (draft_of new.body) + (closing_room c + room (body_pattern context for_any body.now info.now scope new.opened.items)) ≤ extent (draft_of old.body) + room p →
+    closed_by c (with_pat (layout_of context) context.unicode context.whole (body_pattern context for_any body.now info.now scope new.opened.items) inside (draft_of new.body))
+    ≡ with_pat (layout_of context) context.unicode context.whole p slot (draft_of old.body) →
+    inside + slots_with (layout_of context) (body_pattern context for_any body.now info.now scope new.opened.items) ≡ slot + slots_with (layout_of context) p → new.opened.items ≡ old.opened.items → new.needs.items ≡ old.needs.items →
+    ((all : List Need) → IsLetThrough context scope.may_keep (body_pattern context for_any body.now info.now scope new.opened.items) all → IsLetThrough context keeps p all) →
+    extent (draft_of new.body) + (closing_room c + room_of context (body_pattern context for_any body.now info.now scope new.opened.items)) ≤ extent (draft_of old.body) + room_of context p →
     ((tree_context : TreeContext) → IsAnalyzed tree_context (infos_of context) → S tree_context → IsExpandedTask tree_context (task.Body body for_any info scope)) →
     LeadsTo context p keeps S old new slot step
-leads_enclosed_body context old new slot keeps p S step inside c for_any body info scope is at drew slots opened allowed fits stands =
+leads_enclosed_body context old new slot keeps p S step inside c for_any body info scope is at drew slots opened needs allowed fits stands =
     let end = past_pattern context p (progress old slot) in
-    subst (λ k. Leads context old new slot k (listed step.tasks) end (IsAllowed context.unicode keeps p) (room p) S) (sym at)
-    (subst (λ ts. Leads context old new slot inside ts end (IsAllowed context.unicode keeps p) (room p) S) (sym is) (record {
+    subst (λ k. Leads context old new slot k (listed step.tasks) end (IsLetThrough context keeps p) (room_of context p) S) (sym at)
+    (subst (λ ts. Leads context old new slot inside ts end (IsLetThrough context keeps p) (room_of context p) S) (sym is) (record {
       ends = same_progress drew slots opened;
-      allowed = λ h. allowed h.1.0;
+      allowed = λ all among h. allowed all h.1.0;
       fits = omega (arith, fits);
       stands = λ tree_context s stand. (tt, (stands tree_context s stand, tt));
+      notes = same_noted (infos_of context) old.needs.items new.needs.items S needs;
     }))
 
 -- the same step, where a task in it has another name
@@ -346,22 +392,22 @@ pub row_step : (context : CompileContext) (parts rest : List Info) (x : Info) (s
 row_step context parts rest x scope s is =
     let a = node_pattern context x false scope s.opened in
     let b = row_pattern context rest scope s.opened in
-    same_progress (sym (pat_cat context.unicode context.whole a b s.slot s.draft)) (omega arith) refl
+    same_progress (sym (pat_cat (layout_of context) context.unicode context.whole a b s.slot s.draft)) (omega arith) refl
     ∙ ap (λ xs. past_pattern context (row_pattern context xs scope s.opened) s) (sym is)
 
-module _ (u w : Bool) where
+module _ (layout : Layout) (u w : Bool) where
   abbrev P : CorePattern → ℕ → Draft → Draft
-  P = with_pat u w
+  P = with_pat layout u w
 
   abbrev C : CorePattern → List ℕ → ℕ → ℕ → List Op
-  C = code_of (in_class u) (folded u) w
+  C = code_with (in_class u) (folded u) w layout
 
   -- What is patched later could have been patched before more was written.
   patch_early : (at : ℕ) (o : Op) (xs : List Op) (q : CorePattern) (slot : ℕ) → at < length xs →
-      patched at o (closed_draft (P q slot (bare u w xs))) ≡ closed_draft (P q slot (patched at o (bare u w xs)))
+      patched at o (closed_draft (P q slot (bare layout u w xs))) ≡ closed_draft (P q slot (patched at o (bare layout u w xs)))
   unfolding with_pat closed_draft patched
   patch_early at o xs q slot below =
-      let g = flushed (waits q []) in
+      let g = flushed (waits_with layout q []) in
       let c = C q [] (length xs) slot in
       same_draft
       (ap (λ l. set l at o) (append_assoc xs c g)
@@ -370,7 +416,7 @@ module _ (u w : Bool) where
       ∙ ap (λ k. (set xs at o ++ C q [] k slot) ++ g) (sym (length-set xs at o)))
       refl
 
-  bare_is : (d : Draft) → d.text ≡ [] → d ≡ bare u w d.ops
+  bare_is : (d : Draft) → d.text ≡ [] → d ≡ bare layout u w d.ops
   bare_is d e = same_draft refl e
 
   -- the same of any draft after which nothing waits
@@ -401,49 +447,49 @@ module _ (u w : Bool) where
   unfolding with_op
   text_op o d = refl
 
-  choice_text : (p : CorePattern) (k : ℕ) (d : Draft) → (with_choice u w 0 p k d).text ≡ []
+  choice_text : (p : CorePattern) (k : ℕ) (d : Draft) → (with_choice layout u w 0 p k d).text ≡ []
   unfolding with_op closed_draft patched
   choice_text p k d = refl
 
   -- Two alternatives, by the drafts between them.
   pub drew_alternatives : (a b : CorePattern) (slot split first : ℕ) (d0 d1 d2 : Draft) → d1 ≡ closed_draft d0 → split ≡ length d1.ops → d2 ≡ with_op (op.split 0 0) d1 →
       first ≡ length d2.ops →
-      closed_by (ends.Alternatives (length (closed_draft (P a slot d2)).ops)) (P b (slot + slots_in a) (at_others split first (P a slot d2))) ≡ P (alt a b) slot d0
+      closed_by (ends.Alternatives (length (closed_draft (P a slot d2)).ops)) (P b (slot + slots_with layout a) (at_others split first (P a slot d2))) ≡ P (alt a b) slot d0
   drew_alternatives a b slot split first d0 d1 d2 e1 es e2 ef =
-      let s = slot + slots_in a in
+      let s = slot + slots_with layout a in
       let start = closed_draft d0 in
       let xs = start.ops in
       let begun = with_op (op.split 0 0) start in
       let shut = closed_draft (P a slot begun) in
       let jump = length shut.ops in
-      let m = with_choice u w 0 a slot start in
+      let m = with_choice layout u w 0 a slot start in
       let f = closed_draft (P b s m) in
       let end = length f.ops in
-      let is : start ≡ bare u w xs = bare_is start (text_closed d0) in
+      let is : start ≡ bare layout u w xs = bare_is start (text_closed d0) in
       let long : length m.ops ≡ jump + 1 = length_patched (length xs) _ (with_op (op.jump 0) shut) ∙ length_with_op (op.jump 0) shut in
       let none : m.text ≡ [] = choice_text a slot start in
       let early = patch_before jump (op.jump end) m b s none (omega (arith, long)) in
-      let there : jump + 1 ≡ length (with_choice u w 0 a slot (bare u w xs)).ops = sym long ∙ ap (λ (e : Draft). length (with_choice u w 0 a slot e).ops) is in
-      let right : patched jump (op.jump end) m ≡ with_choice u w end a slot start =
-      ap (λ e. patched jump (op.jump end) (with_choice u w 0 a slot e)) is
-      ∙ choice_goes_on u w end [] xs a slot jump tt there
-      ∙ ap (with_choice u w end a slot) (sym is) in
-      let whole : patched jump (op.jump end) f ≡ closed_draft (P b s (with_choice u w end a slot start)) = early ∙ ap (λ e. closed_draft (P b s e)) right in
-      let last : end ≡ length (closed_draft (P b s (with_choice u w end a slot start))).ops =
+      let there : jump + 1 ≡ length (with_choice layout u w 0 a slot (bare layout u w xs)).ops = sym long ∙ ap (λ (e : Draft). length (with_choice layout u w 0 a slot e).ops) is in
+      let right : patched jump (op.jump end) m ≡ with_choice layout u w end a slot start =
+      ap (λ e. patched jump (op.jump end) (with_choice layout u w 0 a slot e)) is
+      ∙ choice_goes_on layout u w end [] xs a slot jump tt there
+      ∙ ap (with_choice layout u w end a slot) (sym is) in
+      let whole : patched jump (op.jump end) f ≡ closed_draft (P b s (with_choice layout u w end a slot start)) = early ∙ ap (λ e. closed_draft (P b s e)) right in
+      let last : end ≡ length (closed_draft (P b s (with_choice layout u w end a slot start))).ops =
       sym (length_patched jump (op.jump end) f) ∙ ap (λ (e : Draft). length e.ops) whole in
-      rw (ef, es, e2, e1) (whole ∙ sym (pat_alt u w a b slot end d0 last))
+      rw (ef, es, e2, e1) (whole ∙ sym (pat_alt layout u w a b slot end d0 last))
 
   -- a conditional, by the drafts between its parts
   pub drew_tested : (c a b : CorePattern) (slot inside split first : ℕ) (d0 d1 d2 : Draft) → inside ≡ slot + 1 → d1 ≡ added (op.begin_atomic slot) d0 → split ≡ length d1.ops →
       d2 ≡ with_op (op.split 0 0) d1 → first ≡ length d2.ops →
       (let d4 = with_op (op.end_atomic slot) (closed_draft (P c inside d2)) in
-      let e = P a (inside + slots_in c) d4 in
-      closed_by (ends.Alternatives (length (closed_draft e).ops)) (P b (inside + slots_in c + slots_in a) (at_others split first e)) ≡ P (conditional c a b) slot d0)
+      let e = P a (inside + slots_with layout c) d4 in
+      closed_by (ends.Alternatives (length (closed_draft e).ops)) (P b (inside + slots_with layout c + slots_with layout a) (at_others split first e)) ≡ P (conditional c a b) slot d0)
   drew_tested c a b slot inside split first d0 d1 d2 ei e1 es e2 ef =
       let d3 = closed_draft (P c inside d2) in
       let d4 = with_op (op.end_atomic slot) d3 in
-      let after_c = inside + slots_in c in
-      let after_a = after_c + slots_in a in
+      let after_c = inside + slots_with layout c in
+      let after_a = after_c + slots_with layout a in
       let e = P a after_c d4 in
       let d5 = closed_draft e in
       let d6 = with_op (op.jump 0) d5 in
@@ -468,5 +514,5 @@ module _ (u w : Bool) where
       let early : d8 ≡ closed_draft (P b after_a m) = patch_before split (op.split first second) d6 b after_a (text_op (op.jump 0) d5 ∙ text_closed e) below in
       let end : length (closed_draft (P b after_a m)).ops ≡ length d7.ops = ap (λ (x : Draft). length x.ops) (sym early) ∙ length_patched split (op.split first second) d7 in
       ap₂ (λ k x. patched there (op.jump k) x) end (sym early)
-      ∙ drew_conditional u w c a b slot inside after_c after_a split first there second (length d7.ops) d0 d1 d2 d3 d4 d5 d6 d7 d8 (patched there (op.jump (length d7.ops)) d8)
+      ∙ drew_conditional layout u w c a b slot inside after_c after_a split first there second (length d7.ops) d0 d1 d2 d3 d4 d5 d6 d7 d8 (patched there (op.jump (length d7.ops)) d8)
       ei e1 es e2 ef refl refl refl refl refl refl refl refl refl refl refl refl

@@ -19,7 +19,6 @@ use Rattle.fancy_regex_class.specs.Classes.{in_class, folded, class_text}
 use Rattle.fancy_regex_class.specs.Matchers.{RefusesText}
 use Rattle.fancy_regex_desugar.specs.CorePatterns.{CorePattern, nothing, cat, tail}
 use Rattle.fancy_regex_desugar.specs.Delegates.{searched, offers_choices, is_delegated, may_explode}
-use Rattle.fancy_regex_desugar.specs.ProgramSizes.{room}
 use Rattle.fancy_regex_desugar.specs.Unfolded.{Written, cat_all}
 use Rattle.fancy_regex_desugar.proofs.DelegateProofs.{part_of, searched_can_be}
 use Rattle.fancy_regex_info.specs.Easy.{is_easy, all_easy}
@@ -34,27 +33,29 @@ use Rattle.fancy_regex_analysis.specs.EmittedParts.{SomeEmittedPart}
 use Rattle.fancy_regex_analysis.specs.NodeErrors.{is_invalid_node}
 use Rattle.fancy_regex_program.specs.Ops as op
 use Rattle.fancy_regex_program.specs.Ops.{op_of}
-use Rattle.fancy_regex_program.specs.Code.{slots_in}
-use Rattle.fancy_regex_compiler.specs.Extents.{extent}
+use Rattle.fancy_regex_program.specs.Code.{Layout, slots_with}
+use Rattle.fancy_regex_compiler.specs.Extents.{extent, room_with}
 use Rattle.fancy_regex_compiler.specs.Known.{info_written, info_written_all, is_plain_info, are_plain_infos, info_begins_tail, tree_in, trees_in, plain_row, info_tail, info_whole}
 use Rattle.fancy_regex_program.specs.Parts.{IsDelegateOf, IsDelegateIfAny, IsPartCause}
 use Rattle.fancy_regex_compiler.specs.Refusals.{is_class, IsReason, TreeContext, IsAnalyzed, ExpandedPart, AreExpandedParts}
-use Rattle.fancy_regex_program.specs.Shapes.{IsAllowed}
+use Rattle.fancy_regex_compiler.specs.Needs.{IsAllowedUnder}
 use Rattle.fancy_regex_compiler.specs.Tails.{row_trees, IsPlainFrom, SplitsRow}
-use Rattle.fancy_regex_compiler.specs.Tasks.{Progress, progress, row_pattern, tail_pattern, whole_pattern, past_pattern, Leads, LeadsTo}
-use Rattle.fancy_regex_compiler.specs.Writing.{Draft, draft_of, with_op, closed_draft, ended, with_pat, part}
+use Rattle.fancy_regex_compiler.specs.Tasks.{Progress, progress, row_pattern, tail_pattern, whole_pattern, past_pattern, room_of, IsLetThrough, Leads, LeadsTo}
+use Rattle.fancy_regex_compiler.specs.Writing.{Draft, draft_of, with_op, closed_draft, ended, with_pat, layout_of, infos_of, part}
 use Rattle.std.specs.declared.alloc.Global.{Global}
 use Rattle.std.specs.declared.sync.Arc.{Arc}
 use Rattle.fancy_regex_compiler.specs.declared.closing.Closing.TheVariants as ends
 use Rattle.fancy_regex_program.specs.declared.delegate.Delegate.{Delegate}
 use Rattle.fancy_regex_compiler.specs.declared.emitter.CompileContext.{CompileContext}
 use Rattle.fancy_regex_compiler.specs.declared.emitter.Emitter.{Emitter}
+use Rattle.fancy_regex_compiler.specs.declared.emitter.Need.{Need}
 use Rattle.fancy_regex_compiler.specs.declared.emitter.Scope.{Scope}
 use Rattle.fancy_regex_program.specs.declared.insn.Insn.TheVariants as insn
 use Rattle.fancy_regex_compiler.specs.declared.task.Step.{Step}
 use Rattle.fancy_regex_compiler.specs.declared.task.Task.TheVariants as task
 use Rattle.fancy_regex_compiler.specs.declared.task.Tasks.TheVariants as tasks
 use Rattle.fancy_regex_compiler.proofs.Drafts.{pat_nothing, pat_cat, pat_tail}
+use Rattle.fancy_regex_compiler.proofs.NeedLemmas.{none_noted, same_noted}
 use Rattle.fancy_regex_compiler.proofs.NodeLemmas.{info_known, W, written_listed}
 use Rattle.fancy_regex_compiler.proofs.PartLemmas.{class_emitted, both_true, none_there}
 use Rattle.fancy_regex_compiler.proofs.RoomLemmas.{room_tail}
@@ -235,22 +236,23 @@ module _ (call : ℕ → CorePattern) where
   pub whole_single : (i : Info) → is_concat (tree_of (out-Info i).expr.now) ≡ false → info_whole call (info_of i) ≡ (W call i).front
   whole_single i other = ap (info_whole call) (info_known i) ∙ single_whole _ _ _ other ∙ sym (ap (λ x. (info_written call x).front) (info_known i))
 
-room_then : (us : List Written) (p : CorePattern) → room (row_then us p) ≡ room (cat_all us) + room p
-unfolding room
-room_then [] p = omega arith
-room_then (u ∷ us) p = omega (arith, room_then us p)
+room_then : (layout : Layout) (us : List Written) (p : CorePattern) → room_with layout (row_then us p) ≡ room_with layout (cat_all us) + room_with layout p
+unfolding room_with
+room_then layout [] p = omega arith
+room_then layout (u ∷ us) p = omega (arith, room_then layout us p)
 
-allowed_then : (unicode keeps : Bool) (us : List Written) (p : CorePattern) → IsAllowed unicode keeps (cat_all us) → IsAllowed unicode keeps p → IsAllowed unicode keeps (row_then us p)
-allowed_then unicode keeps [] p h k = k
-allowed_then unicode keeps (u ∷ us) p h k = (h.0, allowed_then unicode keeps us p h.1 k)
+allowed_then : (layout : Layout) (all : List Need) (unicode keeps : Bool) (us : List Written) (p : CorePattern) → IsAllowedUnder layout all unicode keeps (cat_all us) →
+    IsAllowedUnder layout all unicode keeps p → IsAllowedUnder layout all unicode keeps (row_then us p)
+allowed_then layout all unicode keeps [] p h k = k
+allowed_then layout all unicode keeps (u ∷ us) p h k = (h.0, allowed_then layout all unicode keeps us p h.1 k)
 
 module _ (context : CompileContext) where
   past_cat : (a b : CorePattern) (s : Progress) → past_pattern context b (past_pattern context a s) ≡ past_pattern context (cat a b) s
-  past_cat a b s = same_progress (sym (pat_cat context.unicode context.whole a b s.slot s.draft)) (omega arith) refl
+  past_cat a b s = same_progress (sym (pat_cat (layout_of context) context.unicode context.whole a b s.slot s.draft)) (omega arith) refl
 
   past_then : (us : List Written) (p : CorePattern) (s : Progress) → past_pattern context p (past_pattern context (cat_all us) s) ≡ past_pattern context (row_then us p) s
   past_then [] p s =
-      ap (past_pattern context p) (let same : past_pattern context nothing s ≡ s = same_progress (pat_nothing context.unicode context.whole s.slot s.draft) (omega arith) refl in same)
+      ap (past_pattern context p) (let same : past_pattern context nothing s ≡ s = same_progress (pat_nothing (layout_of context) context.unicode context.whole s.slot s.draft) (omega arith) refl in same)
   past_then (u ∷ us) p s =
       ap (past_pattern context p) (sym (past_cat u.front (cat_all us) s)) ∙ past_then us p (past_pattern context u.front s) ∙ past_cat u.front (row_then us p) s
 
@@ -260,16 +262,17 @@ pub leads_whole : (context : CompileContext) (e : Emitter) (slot : ℕ) (i : Inf
     ((tree_context : TreeContext) → S tree_context → AreExpandedParts tree_context scope.may_keep scope.may_be_absent false first.now) →
     ((tree_context : TreeContext) → S tree_context → AreExpandedParts tree_context scope.may_keep scope.may_be_absent false last.now) →
     Leads context e e slot slot (task.Tail last scope ∷ task.Row first scope ∷ []) (past_pattern context (whole_pattern context i scope e.opened.items) (progress e slot))
-    (IsAllowed context.unicode scope.may_keep (whole_pattern context i scope e.opened.items)) (room (whole_pattern context i scope e.opened.items)) S
+    (IsLetThrough context scope.may_keep (whole_pattern context i scope e.opened.items)) (room_of context (whole_pattern context i scope e.opened.items)) S
 leads_whole context e slot i scope first last S is begins ends =
     let us = map (part context scope e.opened.items) first.now in
     let p = tail_pattern context last.now scope e.opened.items in
-    subst (λ x. Leads context e e slot slot (task.Tail last scope ∷ task.Row first scope ∷ []) (past_pattern context x (progress e slot)) (IsAllowed context.unicode scope.may_keep x) (room x) S) (sym is)
+    subst (λ x. Leads context e e slot slot (task.Tail last scope ∷ task.Row first scope ∷ []) (past_pattern context x (progress e slot)) (IsLetThrough context scope.may_keep x) (room_of context x) S) (sym is)
     (record {
       ends = past_then context us p (progress e slot);
-      allowed = λ h. allowed_then context.unicode scope.may_keep us p h.1.0 h.0;
-      fits = omega (arith, room_then us p);
+      allowed = λ all among h. allowed_then (layout_of context) all context.unicode scope.may_keep us p h.1.0 h.0;
+      fits = omega (arith, room_then (layout_of context) us p);
       stands = λ tree_context s stand. (ends tree_context stand, (begins tree_context stand, tt));
+      notes = none_noted (infos_of context) e.needs.items S;
     })
 
 tail_row : (t : Trees) (us : List Written) → is_delegated false (tree.concat t) ≡ true → plain_row t us ≡ tail (tree.concat t) (cat_all us)
@@ -279,14 +282,14 @@ is_row : (t : Trees) (us : List Written) → is_delegated false (tree.concat t) 
 is_row t us e = ap (λ b. cond b (tail (tree.concat t) (cat_all us)) (cat_all us)) e
 
 -- the room of what is delegated
-pub tail_room : (t : Trees) (us : List Written) → is_delegated false (tree.concat t) ≡ true → 1 ≤ room (plain_row t us)
-tail_room t us e = let rooms = ap room (tail_row t us e) in omega (arith, rooms, room_tail (tree.concat t) (cat_all us))
+pub tail_room : (layout : Layout) (t : Trees) (us : List Written) → is_delegated false (tree.concat t) ≡ true → 1 ≤ room_with layout (plain_row t us)
+tail_room layout t us e = let rooms = ap (room_with layout) (tail_row t us e) in omega (arith, rooms, room_tail layout (tree.concat t) (cat_all us))
 
 -- a plain end that is delegated
 module _ (context : CompileContext) (old new : Emitter) (slot : ℕ) (parts : Bor (List Info)) (scope : Scope) (delegated : Arc Delegate Global) (begin : ℕ) (d : Draft)
     (h : IsDelegateOf context.unicode false (tree.concat (row_trees parts.now)) delegated.value) (shut : d ≡ closed_draft (draft_of old.body)) (at : begin ≡ length d.ops)
     (drew : draft_of new.body ≡ with_op (op_of (insn.DelegateTail delegated 0)) d) (long : extent (draft_of new.body) ≤ extent (draft_of old.body) + 1)
-    (opened : new.opened.items ≡ old.opened.items) where
+    (opened : new.opened.items ≡ old.opened.items) (needs : new.needs.items ≡ old.needs.items) where
   same_tail : op_of (insn.DelegateTail delegated 0) ≡ op.tail (in_class context.unicode) (folded context.unicode) (tree.concat (row_trees parts.now)) 0
   same_tail = λ i. op.tail (in_class (h.unicode_is i)) (folded (h.unicode_is i)) (searched (h.for_any_is i) (h.part i)) 0
 
@@ -294,6 +297,7 @@ module _ (context : CompileContext) (old new : Emitter) (slot : ℕ) (parts : Bo
       LeadsTo context (tail_pattern context parts.now scope old.opened.items) scope.may_keep
       (λ tree_context. AreExpandedParts tree_context scope.may_keep scope.may_be_absent false parts.now) old new slot step
   leads_tail step is =
+      let layout = layout_of context in
       let u = context.unicode in
       let w = context.whole in
       let t = tree.concat (row_trees parts.now) in
@@ -304,16 +308,17 @@ module _ (context : CompileContext) (old new : Emitter) (slot : ℕ) (parts : Bo
       let drawn : draft_of new.body ≡ with_op (op.tail (in_class u) (folded u) t 0) (closed_draft (draft_of old.body)) = drew ∙ ap₂ with_op same_tail shut in
       let here : begin ≡ length (closed_draft (draft_of old.body)).ops = at ∙ ap (λ (x : Draft). length x.ops) shut in
       subst (λ r. LeadsTo context (tail_pattern context parts.now scope old.opened.items) scope.may_keep S old new slot r) (sym is)
-      (subst (λ x. Leads context old new slot slot there (past_pattern context x (progress old slot)) (IsAllowed u scope.may_keep x) (room x) S)
+      (subst (λ x. Leads context old new slot slot there (past_pattern context x (progress old slot)) (IsLetThrough context scope.may_keep x) (room_of context x) S)
       (sym (tail_row (row_trees parts.now) (map (part context scope old.opened.items) parts.now) h.delegated)) (record {
         ends = same_progress
-            (ap₂ (λ q x. ended begin (length (closed_draft (with_pat u w q slot x)).ops) (closed_draft (with_pat u w q slot x))) now drawn
-            ∙ ap (λ k. let x = closed_draft (with_pat u w row slot (with_op (op.tail (in_class u) (folded u) t 0) (closed_draft (draft_of old.body)))) in ended k (length x.ops) x) here
-            ∙ sym (pat_tail u w t row slot (draft_of old.body)))
-            (ap (λ q. slot + slots_in q) now) opened;
-        allowed = λ k. (h.read, subst (IsAllowed u scope.may_keep) now k.1.0);
-        fits = (let rooms = ap room now in omega (arith, long, rooms, room_tail t row));
+            (ap₂ (λ q x. ended begin (length (closed_draft (with_pat layout u w q slot x)).ops) (closed_draft (with_pat layout u w q slot x))) now drawn
+            ∙ ap (λ k. let x = closed_draft (with_pat layout u w row slot (with_op (op.tail (in_class u) (folded u) t 0) (closed_draft (draft_of old.body)))) in ended k (length x.ops) x) here
+            ∙ sym (pat_tail layout u w t row slot (draft_of old.body)))
+            (ap (λ q. slot + slots_with (layout_of context) q) now) opened;
+        allowed = λ all among k. (h.read, subst (λ q. IsLetThrough context scope.may_keep q all) now k.1.0);
+        fits = (let rooms = ap (room_of context) now in omega (arith, long, rooms, room_tail layout t row));
         stands = λ tree_context s stand. (tt, (stand, tt));
+        notes = same_noted (infos_of context) old.needs.items new.needs.items S needs;
       }))
 
 -- a plain end that is not delegated
@@ -324,7 +329,7 @@ pub leads_plain : (context : CompileContext) (e : Emitter) (slot : ℕ) (parts :
 leads_plain context e slot parts scope step none is =
     leads_one_step context e slot scope.may_keep (row_pattern context parts.now scope e.opened.items) (tail_pattern context parts.now scope e.opened.items) (task.Row parts scope)
     (λ tree_context. AreExpandedParts tree_context scope.may_keep scope.may_be_absent false parts.now) step
-    (is_row (row_trees parts.now) (map (part context scope e.opened.items) parts.now) none) is refl (λ h. h) refl (omega arith) (λ tree_context s stand. stand)
+    (is_row (row_trees parts.now) (map (part context scope e.opened.items) parts.now) none) is refl (λ all h. h) refl (omega arith) (λ tree_context s stand. stand)
 
 -- a class of the parts of a row is written out with them
 row_shows : (tree_context : TreeContext) (keeps absents : Bool) (reads : ℕ → Bool) (c : Text × Bool) (xs : List Info) (k : ℕ) →

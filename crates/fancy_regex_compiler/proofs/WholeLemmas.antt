@@ -1,5 +1,5 @@
 -- The program of a whole pattern, and that of a tree.
-use Rattle.std.proofs.Common.{◌≡◌, ℕ, ◌+◌, ◌*◌, ◌<◌, Bool, true, false, not, true≢false, List, [], ◌++◌, length, map, refl, sym, ap, ap₂, subst, ◌∙◌, append_assoc, arith}
+use Rattle.std.proofs.Common.{◌≡◌, ℕ, ◌+◌, ◌*◌, ◌<◌, Bool, true, false, not, true≢false, inl, List, [], ◌++◌, length, map, refl, sym, ap, ap₂, subst, ◌∙◌, append_assoc, arith}
 use Rattle.fancy_regex_tree.specs.Tree.{Tree}
 use Rattle.fancy_regex_class.specs.Classes.{in_class, folded}
 use Rattle.fancy_regex_desugar.specs.CorePatterns.{CorePattern}
@@ -7,14 +7,15 @@ use Rattle.fancy_regex_desugar.specs.Unfolded.{core_pattern_of}
 use Rattle.fancy_regex_info.specs.Analysis.{analysis}
 use Rattle.fancy_regex_info.specs.Infos.{InfoTree}
 use Rattle.fancy_regex_program.specs.Ops.{Op, ops_of}
-use Rattle.fancy_regex_program.specs.Code.{flushed, slots_in, waits, code_of, opening, closing, program_of}
+use Rattle.fancy_regex_program.specs.Code.{Layout, written_out, flushed, slots_in, waits, code_of, opening, closing, program_of}
 use Rattle.fancy_regex_info.specs.Views.{pattern_in}
 use Rattle.fancy_regex_compiler.specs.Known.{info_whole, info_call, most_calls_in, groups_in, pat_with, pat_in}
 use Rattle.fancy_regex_compiled.specs.Programs.{IsWhole, IsMadeFrom, IsWritableIfAllowed, RefersToGroups}
 use Rattle.fancy_regex_program.specs.Shapes.{IsAllowed, IsWritable}
 use Rattle.fancy_regex_program.specs.ValidPrograms.{IsValidProgram}
 use Rattle.fancy_regex_program.specs.declared.insn.Insn.{Insn}
-use Rattle.fancy_regex_compiler.specs.Writing.{Draft, closed_draft, with_pat}
+use Rattle.fancy_regex_compiler.specs.Writing.{Draft, closed_draft, with_pat, Wrote}
+use Rattle.fancy_regex_compiler.specs.declared.emitter.Emitter.{Emitter}
 use Rattle.fancy_regex_compiled.specs.declared.prog.Prog.{Prog}
 use Rattle.fancy_regex_program.proofs.ValidCode.{program_is_valid}
 use Rattle.fancy_regex_analysis.proofs.AnalysisErrorLemmas.{no_node_shows}
@@ -28,15 +29,20 @@ flat o c f e = simp append_assoc
 
 -- what stands once the body is closed and the end is written
 pub program_is : (u w anchored : Bool) (p : CorePattern) (groups slot : ℕ) (d1 d2 : Draft) (ops : List Op) → slot ≡ 2 * groups →
-    d1 ≡ record { ops = opening (in_class u) (folded u) w anchored; text = [] } → d2 ≡ with_pat u w p slot d1 →
+    d1 ≡ record { ops = opening (in_class u) (folded u) w anchored; text = [] } → d2 ≡ with_pat written_out u w p slot d1 →
     ops ≡ (closed_draft d2).ops ++ closing (in_class u) (folded u) w → ops ≡ program_of (in_class u) (folded u) w anchored groups p
-unfolding closed_draft with_pat program_of
+unfolding closed_draft with_pat program_of code_of
 program_is u w anchored p groups slot d1 d2 ops es e1 e2 e3 =
     let o = opening (in_class u) (folded u) w anchored in
     let begun : Draft = record { ops = o; text = [] } in
     let c = code_of (in_class u) (folded u) w p [] (length o) (2 * groups) in
     let e = closing (in_class u) (folded u) w in
-    e3 ∙ ap (λ d. (closed_draft d).ops ++ e) (e2 ∙ ap₂ (λ s d. with_pat u w p s d) es e1) ∙ flat o c (flushed (waits p [])) e
+    e3 ∙ ap (λ d. (closed_draft d).ops ++ e) (e2 ∙ ap₂ (λ s d. with_pat written_out u w p s d) es e1) ∙ flat o c (flushed (waits p [])) e
+
+-- what was written where no call stays
+pub wrote_out : {layout : Layout} {u w : Bool} {old new : Emitter} {slot after : ℕ} {p : CorePattern} → layout ≡ written_out → Wrote layout u w old new slot after p →
+    Wrote written_out u w old new slot after p
+wrote_out {u = u} {w = w} {old = old} {new = new} {slot = slot} {after = after} {p = p} none h = subst (λ l. Wrote l u w old new slot after p) none h
 
 -- the pattern of the body, where no call is open
 pub body_is : (groups : List InfoTree) (x : InfoTree) (calls : ℕ) (opened : List ℕ) → calls ≡ most_calls_in groups → opened ≡ [] →
@@ -61,7 +67,7 @@ pub made_from : (prog : Prog) (anchored explicit : Bool) (t : Tree) (p : CorePat
 made_from prog anchored explicit t p anchored_is wrote is groups whole allowed =
     let all = subst (λ q. IsWhole prog.unicode prog.whole anchored prog.groups q prog.body.items prog.slots) is wrote in
     record {
-      program = record { anchored_is = anchored_is; body = all.ops; slots = all.slots_are; groups = groups };
+      program = record { anchored_is = anchored_is; code = inl all; groups = groups };
       whole = whole;
       written = can_be_written prog.unicode explicit t (subst (IsAllowed prog.unicode true) is allowed);
     }

@@ -14,12 +14,13 @@ use Rattle.fancy_regex_desugar.specs.CorePatterns.{any, literal, class, CorePatt
 use Rattle.fancy_regex_desugar.specs.Delegates.{searched, is_delegated, begins_tail}
 use Rattle.fancy_regex_desugar.specs.Shapes.{StepsBackOnlyFirst, HasGroups}
 use Rattle.fancy_regex_desugar.specs.Unfolded.{Written, pat_for, cat_all, alt_all, body_of, repeated, look, node, branches, written, written_all, written_call, written_plain, written_tail, written_whole, core_pattern_of}
-use Rattle.fancy_regex_desugar.proofs.GroupProofs.{pattern_groups_are_in_range}
-use Rattle.fancy_regex_desugar.proofs.StepBackProofs.{pattern_steps_back_only_first}
+use Rattle.fancy_regex_desugar.proofs.GroupProofs.{pattern_groups_are_in_range, body_groups_from_one, body_groups_from_zero}
+use Rattle.fancy_regex_desugar.proofs.StepBackProofs.{unfolded_steps_back_only_first, pattern_steps_back_only_first}
 use Rattle.fancy_regex_analysis.specs.NodeErrors.{some_node, some_node_of, shows, is_no_group}
 use Rattle.fancy_regex_info.specs.Views.{pattern_in}
 use Rattle.fancy_regex_info.specs.declared.error.CompileError.TheVariants.{InvalidBackref}
 use Rattle.fancy_regex_compiled.specs.Programs.{RefersToGroups, CanBeWritten}
+use Rattle.fancy_regex_program.specs.Layouts.{body_with_calls}
 use Rattle.fancy_regex_program.specs.Shapes.{KeepsNothing, IsAllowed, IsWritable}
 
 -- where the match start may not be set, it stays as it is
@@ -330,3 +331,33 @@ can_be_written unicode explicit t allowed =
       writable = λ refers. can_write p.first_group (length p.groups) unicode true false (core_pattern_of p) (pattern_has_groups explicit t)
           (pattern_reads explicit t refers) allowed (pattern_steps_back_only_first p);
     }
+
+-- the body of a group, of whose calls nothing is written out
+body_reads : (explicit : Bool) (t : Tree) (k : ℕ) (u : Tree) → target (pattern_in explicit t).groups k ≡ Some u → RefersToGroups explicit t →
+    ReadsGroups (pattern_in explicit t).first_group (length (pattern_in explicit t).groups) (body_with_calls (pattern_in explicit t).groups k u)
+body_reads true t k u is h =
+    let gs = bodies t in
+    let count = length gs in
+    (reads count 0 (omega arith) gs (λ j. called j fail) (λ j. record { is = tt }) (k + 1) u (one_refers count gs k u (bodies_refer count t h) is)).front
+body_reads false t k u is h =
+    let gs = t ∷ bodies t in
+    let count = length gs in
+    (reads count 1 (omega arith) gs (λ j. called j fail) (λ j. record { is = tt }) (k + 1) u (one_refers count gs k u (h, bodies_refer count t h) is)).front
+
+body_has_groups : (explicit : Bool) (t : Tree) (k : ℕ) (u : Tree) → target (pattern_in explicit t).groups k ≡ Some u →
+    HasGroups (pattern_in explicit t).first_group (length (pattern_in explicit t).groups) (body_with_calls (pattern_in explicit t).groups k u)
+unfolding written_call
+body_has_groups true t k u is = body_groups_from_zero t 0 [] k u is
+body_has_groups false t k u is = body_groups_from_one t 0 [] k u is
+
+body_steps_back : (groups : List Tree) (k : ℕ) (u : Tree) → StepsBackOnlyFirst false (body_with_calls groups k u)
+unfolding written_call
+body_steps_back groups k u = (unfolded_steps_back_only_first groups 0 [] (k + 1) u).0
+
+pub body_can_be_written : (unicode keeps explicit : Bool) (t : Tree) (k : ℕ) (u : Tree) → target (pattern_in explicit t).groups k ≡ Some u → RefersToGroups explicit t →
+    IsAllowed unicode keeps (body_with_calls (pattern_in explicit t).groups k u) →
+    IsWritable (pattern_in explicit t).first_group (length (pattern_in explicit t).groups) (body_with_calls (pattern_in explicit t).groups k u)
+body_can_be_written unicode keeps explicit t k u is refers allowed =
+    let p = pattern_in explicit t in
+    can_write p.first_group (length p.groups) unicode keeps false (body_with_calls p.groups k u) (body_has_groups explicit t k u is) (body_reads explicit t k u is refers) allowed
+    (body_steps_back p.groups k u)

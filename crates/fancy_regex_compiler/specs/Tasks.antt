@@ -4,23 +4,23 @@ use Rattle.fancy_regex_tree.specs.declared.expr.Expr.{Expr}
 use Rattle.fancy_regex_tree.specs.Tree as tree
 use Rattle.fancy_regex_tree.specs.Tree.{Tree, tree_of}
 use Rattle.fancy_regex_desugar.specs.CorePatterns.{CorePattern}
-use Rattle.fancy_regex_desugar.specs.ProgramSizes.{room}
 use Rattle.fancy_regex_desugar.specs.Unfolded.{cat_all, alt_all, body_of}
 use Rattle.fancy_regex_info.specs.Infos.{InfoTree, InfoTrees, known, no_infos, more_infos, infos, info_of}
 use Rattle.fancy_regex_info.specs.declared.error.CompileError.{CompileError}
 use Rattle.fancy_regex_info.specs.declared.info.Info.{Info}
 use Rattle.fancy_regex_program.specs.Ops as op
-use Rattle.fancy_regex_program.specs.Code.{slots_in, is_uncounted, loop_entry, loop_head}
-use Rattle.fancy_regex_compiler.specs.Extents.{extent, IsFull}
+use Rattle.fancy_regex_program.specs.Code.{slots_with, is_uncounted, loop_entry, loop_head}
+use Rattle.fancy_regex_compiler.specs.Extents.{extent, room_with, IsFull}
 use Rattle.fancy_regex_compiler.specs.Known.{plain_row, info_call, info_whole}
+use Rattle.fancy_regex_compiler.specs.Needs.{AreAmong, IsAllowedUnder, Notes}
 use Rattle.fancy_regex_compiler.specs.Tails.{row_trees}
 use Rattle.fancy_regex_compiler.specs.Refusals.{TreeContext, IsAnalyzed, IsExpandedPart, AreExpandedParts, IsExpandedBody, IsReasonWhere, IsMemoryOrTooComplex}
-use Rattle.fancy_regex_program.specs.Shapes.{IsAllowed}
-use Rattle.fancy_regex_compiler.specs.Writing.{Draft, draft_of, with_op, closed_draft, patched, ended, with_pat, infos_of, part, side}
+use Rattle.fancy_regex_compiler.specs.Writing.{Draft, draft_of, with_op, closed_draft, patched, ended, with_pat, layout_of, Wrote, infos_of, part, side}
 use Rattle.fancy_regex_compiler.specs.declared.closing.Closing.{Closing}
 use Rattle.fancy_regex_compiler.specs.declared.closing.Closing.TheVariants as closing
 use Rattle.fancy_regex_compiler.specs.declared.emitter.CompileContext.{CompileContext}
 use Rattle.fancy_regex_compiler.specs.declared.emitter.Emitter.{Emitter}
+use Rattle.fancy_regex_compiler.specs.declared.emitter.Need.{Need}
 use Rattle.fancy_regex_compiler.specs.declared.emitter.Scope.{Scope}
 use Rattle.fancy_regex_compiler.specs.declared.program_builder.ProgramBuilder.{ProgramBuilder}
 use Rattle.fancy_regex_compiler.specs.declared.task.Task.{Task}
@@ -117,8 +117,8 @@ module _ (context : CompileContext) where
   -- with the program of a pattern after it
   abbrev pub past_pattern : CorePattern → Progress → Progress
   past_pattern p s = record {
-    draft = with_pat context.unicode context.whole p s.slot s.draft;
-    slot = s.slot + slots_in p;
+    draft = with_pat (layout_of context) context.unicode context.whole p s.slot s.draft;
+    slot = s.slot + slots_with (layout_of context) p;
     opened = s.opened;
   }
 
@@ -152,17 +152,20 @@ module _ (context : CompileContext) where
   past_all [] s = s
   past_all (t ∷ ts) s = past t (past_all ts s)
 
-  -- the room of a task, and of a stack of them
+  -- the room of a pattern, of a task, and of a stack of tasks
+  abbrev pub room_of : CorePattern → ℕ
+  room_of p = room_with (layout_of context) p
+
   abbrev pub task_room : Task → List ℕ → ℕ
-  task_room (task.Node info steps_back scope) opened = room (node_pattern info.now steps_back scope opened)
-  task_room (task.Body body for_any info scope) opened = room (body_pattern for_any body.now info.now scope opened)
-  task_room (task.Whole info scope) opened = room (whole_pattern info.now scope opened)
-  task_room (task.Tail parts scope) opened = room (tail_pattern parts.now scope opened)
-  task_room (task.Row parts scope) opened = room (row_pattern parts.now scope opened)
-  task_room (task.Branches branches steps_back scope) opened = room (branches_pattern branches.now steps_back scope opened)
-  task_room (task.Otherwise split first branches steps_back scope) opened = 1 + room (branches_pattern branches.now steps_back scope opened)
+  task_room (task.Node info steps_back scope) opened = room_of (node_pattern info.now steps_back scope opened)
+  task_room (task.Body body for_any info scope) opened = room_of (body_pattern for_any body.now info.now scope opened)
+  task_room (task.Whole info scope) opened = room_of (whole_pattern info.now scope opened)
+  task_room (task.Tail parts scope) opened = room_of (tail_pattern parts.now scope opened)
+  task_room (task.Row parts scope) opened = room_of (row_pattern parts.now scope opened)
+  task_room (task.Branches branches steps_back scope) opened = room_of (branches_pattern branches.now steps_back scope opened)
+  task_room (task.Otherwise split first branches steps_back scope) opened = 1 + room_of (branches_pattern branches.now steps_back scope opened)
   task_room (task.Tested slot split first x y scope) opened =
-      2 + (room (node_pattern x.now false scope opened) + room (node_pattern y.now false scope opened))
+      2 + (room_of (node_pattern x.now false scope opened) + room_of (node_pattern y.now false scope opened))
   task_room (task.Close c) opened = closing_room c
   task_room task.EndCall opened = 0
 
@@ -170,25 +173,29 @@ module _ (context : CompileContext) where
   tasks_room [] opened = 0
   tasks_room (t ∷ ts) opened = task_room t (opened_after_all ts opened) + tasks_room ts opened
 
-  -- The compiler lets through what is left to emit.
-  abbrev pub IsAllowedTask : Task → List ℕ → Type 0
-  IsAllowedTask (task.Node info steps_back scope) opened = IsAllowed context.unicode scope.may_keep (node_pattern info.now steps_back scope opened)
-  IsAllowedTask (task.Body body for_any info scope) opened = IsAllowed context.unicode scope.may_keep (body_pattern for_any body.now info.now scope opened)
-  IsAllowedTask (task.Whole info scope) opened = IsAllowed context.unicode scope.may_keep (whole_pattern info.now scope opened)
-  IsAllowedTask (task.Tail parts scope) opened = IsAllowed context.unicode scope.may_keep (tail_pattern parts.now scope opened)
-  IsAllowedTask (task.Row parts scope) opened = IsAllowed context.unicode scope.may_keep (row_pattern parts.now scope opened)
-  IsAllowedTask (task.Branches branches steps_back scope) opened = IsAllowed context.unicode scope.may_keep (branches_pattern branches.now steps_back scope opened)
-  IsAllowedTask (task.Otherwise split first branches steps_back scope) opened =
-      IsAllowed context.unicode scope.may_keep (branches_pattern branches.now steps_back scope opened)
-  IsAllowedTask (task.Tested slot split first x y scope) opened =
-      IsAllowed context.unicode scope.may_keep (node_pattern x.now false scope opened)
-      × IsAllowed context.unicode scope.may_keep (node_pattern y.now false scope opened)
-  IsAllowedTask (task.Close c) opened = Unit {0}
-  IsAllowedTask task.EndCall opened = Unit {0}
+  -- The compiler lets the pattern through, where the match start may be set or not and these bodies are needed.
+  abbrev pub IsLetThrough : Bool → CorePattern → List Need → Type 0
+  IsLetThrough keeps p all = IsAllowedUnder (layout_of context) all context.unicode keeps p
 
-  abbrev pub AreAllowedTasks : List Task → List ℕ → Type 0
-  AreAllowedTasks [] opened = Unit {0}
-  AreAllowedTasks (t ∷ ts) opened = IsAllowedTask t (opened_after_all ts opened) × AreAllowedTasks ts opened
+  -- It lets through what is left to emit.
+  abbrev pub IsAllowedTask : Task → List ℕ → List Need → Type 0
+  IsAllowedTask (task.Node info steps_back scope) opened all = IsLetThrough scope.may_keep (node_pattern info.now steps_back scope opened) all
+  IsAllowedTask (task.Body body for_any info scope) opened all = IsLetThrough scope.may_keep (body_pattern for_any body.now info.now scope opened) all
+  IsAllowedTask (task.Whole info scope) opened all = IsLetThrough scope.may_keep (whole_pattern info.now scope opened) all
+  IsAllowedTask (task.Tail parts scope) opened all = IsLetThrough scope.may_keep (tail_pattern parts.now scope opened) all
+  IsAllowedTask (task.Row parts scope) opened all = IsLetThrough scope.may_keep (row_pattern parts.now scope opened) all
+  IsAllowedTask (task.Branches branches steps_back scope) opened all = IsLetThrough scope.may_keep (branches_pattern branches.now steps_back scope opened) all
+  IsAllowedTask (task.Otherwise split first branches steps_back scope) opened all =
+      IsLetThrough scope.may_keep (branches_pattern branches.now steps_back scope opened) all
+  IsAllowedTask (task.Tested slot split first x y scope) opened all =
+      IsLetThrough scope.may_keep (node_pattern x.now false scope opened) all
+      × IsLetThrough scope.may_keep (node_pattern y.now false scope opened) all
+  IsAllowedTask (task.Close c) opened all = Unit {0}
+  IsAllowedTask task.EndCall opened all = Unit {0}
+
+  abbrev pub AreAllowedTasks : List Task → List ℕ → List Need → Type 0
+  AreAllowedTasks [] opened all = Unit {0}
+  AreAllowedTasks (t ∷ ts) opened all = IsAllowedTask t (opened_after_all ts opened) all × AreAllowedTasks ts opened all
 
 -- the nodes of what is left to emit stand in a whole tree that is clear
 abbrev pub IsExpandedTask : TreeContext → Task → Type 0
@@ -211,18 +218,20 @@ AreExpandedTasks tree_context [] = Unit {0}
 AreExpandedTasks tree_context (t ∷ ts) = IsExpandedTask tree_context t × AreExpandedTasks tree_context ts
 
 -- From the old program with its free slot, these tasks on the new one with its own come to the same as what was to be emitted:
--- they end there, are let through only where it is, fit into its room, and stand in a clear tree where it does.
-pub record Leads (context : CompileContext) (old new : Emitter) (slot after : ℕ) (left : List Task) (end : Progress) (Allowed : Type 0) (most : ℕ)
+-- they end there, are let through only where it is, fit into its room, and stand in a clear tree where it does; the old needs stay, and the
+-- targets of the others stand there too.
+pub record Leads (context : CompileContext) (old new : Emitter) (slot after : ℕ) (left : List Task) (end : Progress) (Allowed : List Need → Type 0) (most : ℕ)
     (Stand : TreeContext → Type 0) : Type 0 where
   pub ends : past_all context left (progress new after) ≡ end
-  pub allowed : AreAllowedTasks context left new.opened.items → Allowed
+  pub allowed : (all : List Need) → AreAmong new.needs.items all → AreAllowedTasks context left new.opened.items all → Allowed all
   pub fits : extent (draft_of new.body) + tasks_room context left new.opened.items ≤ extent (draft_of old.body) + most
   pub stands : (tree_context : TreeContext) → IsAnalyzed tree_context (infos_of context) → Stand tree_context → AreExpandedTasks tree_context left
+  pub notes : Notes (infos_of context) old.needs.items new.needs.items Stand
 
 -- A step towards a pattern.
 abbrev pub LeadsTo : CompileContext → CorePattern → Bool → (TreeContext → Type 0) → Emitter → Emitter → ℕ → Step → Type 0
 LeadsTo context p keeps Stand old new slot step =
-    Leads context old new slot step.slot (listed step.tasks) (past_pattern context p (progress old slot)) (IsAllowed context.unicode keeps p) (room p) Stand
+    Leads context old new slot step.slot (listed step.tasks) (past_pattern context p (progress old slot)) (IsLetThrough context keeps p) (room_of context p) Stand
 
 -- A step of a task.
 abbrev pub LeadsOn : CompileContext → Task → Emitter → Emitter → ℕ → Step → Type 0
@@ -277,7 +286,7 @@ tasks_work groups (t ∷ ts) = task_work groups t + tasks_work groups ts
 
 -- What emitting gives: a step that leads to the end and leaves less work, or an error. Too many instructions are an error only
 -- where the cap is below what the program may need; any other error has a reason in the tree.
-pub record Emits (context : CompileContext) (old new : Emitter) (slot : ℕ) (result : Result Step CompileError) (end : Progress) (Allowed : Type 0) (most : ℕ)
+pub record Emits (context : CompileContext) (old new : Emitter) (slot : ℕ) (result : Result Step CompileError) (end : Progress) (Allowed : List Need → Type 0) (most : ℕ)
     (Stand : TreeContext → Type 0) (all_work : ℕ) : Type 0 where
   pub cap : new.body.cap ≡ old.body.cap
   pub leads : IfOk result (λ step. Leads context old new slot step.slot (listed step.tasks) end Allowed most Stand)
@@ -294,7 +303,18 @@ EmitsTask context t old new slot result =
 -- emitting the first part of a pattern; it may keep its start or not, stands so in the tree, and is so much work
 abbrev pub EmitsPattern : CompileContext → CorePattern → Bool → (TreeContext → Type 0) → ℕ → Emitter → Emitter → ℕ → Result Step CompileError → Type 0
 EmitsPattern context p keeps Stand all_work old new slot result =
-    Emits context old new slot result (past_pattern context p (progress old slot)) (IsAllowed context.unicode keeps p) (room p) Stand all_work
+    Emits context old new slot result (past_pattern context p (progress old slot)) (IsLetThrough context keeps p) (room_of context p) Stand all_work
+
+-- What emitting all of a pattern gives: its program, which is let through where each body that it needs is, or an error. Too many
+-- instructions are an error only where the cap is below what the program may need; any other error has a reason in the tree.
+pub record EmitsAll (context : CompileContext) (p : CorePattern) (keeps : Bool) (Stand : TreeContext → Type 0) (old new : Emitter) (slot : ℕ)
+    (result : Result ℕ CompileError) : Type 0 where
+  pub cap : new.body.cap ≡ old.body.cap
+  pub wrote : IfOk result (λ after. Wrote (layout_of context) context.unicode context.whole old new slot after p)
+  pub allowed : IfOk result (λ after. (all : List Need) → AreAmong new.needs.items all → IsLetThrough context keeps p all)
+  pub notes : IfOk result (λ after. Notes (infos_of context) old.needs.items new.needs.items Stand)
+  pub full : IfErr result (IsFull old.body (room_of context p))
+  pub refused : IfErr result (IsReasonWhere context.unicode (infos_of context) Stand)
 
 -- Beginning a construct, whatever is fixed for the compilation: a step that leads to its pattern, after two instructions at most.
 -- The only errors are want of memory and too many instructions.

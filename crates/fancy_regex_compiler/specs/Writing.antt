@@ -1,20 +1,24 @@
 -- A program that is being written.
-use Rattle.std.specs.Prelude.{◌≡◌, ℕ, ◌+◌, Bool, List, [], ◌∷◌, ◌++◌, length, map, slice_get, slice_set, Option, Some, None, chars, string_bytes, if◌then◌else◌}
+use Rattle.std.specs.Prelude.{◌≡◌, ℕ, ◌+◌, Bool, List, [], ◌∷◌, ◌++◌, length, map, slice_get, slice_set, Option, Some, None, option_map, chars, string_bytes, if◌then◌else◌}
 use Rattle.std.specs.Borrow.{Bor}
+use Rattle.std.specs.declared.alloc.Global.{Global}
+use Rattle.std.specs.declared.sync.Arc.{Arc}
 use Rattle.fancy_regex_tree.specs.Tree.{Text, Tree}
 use Rattle.fancy_regex_class.specs.Classes.{in_class, folded}
 use Rattle.fancy_regex_desugar.specs.CorePatterns.{CorePattern}
 use Rattle.fancy_regex_desugar.specs.Unfolded.{Written}
 use Rattle.fancy_regex_info.specs.Infos.{InfoTree, info_of}
 use Rattle.fancy_regex_info.specs.declared.info.Info.{Info}
-use Rattle.fancy_regex_program.specs.Ops.{Op, op_of, ops_of, tail, split, jump}
-use Rattle.fancy_regex_program.specs.Code.{flushed, whole_literal, still_waits, waits, slots_in, code_of}
+use Rattle.fancy_regex_program.specs.Ops.{Op, Place, op_of, ops_of, place_of, tail, split, jump}
+use Rattle.fancy_regex_program.specs.Code.{Layout, flushed, whole_literal, still_waits, waits_with, slots_with, code_with}
 use Rattle.fancy_regex_compiler.specs.Known.{front_of, info_written, info_call}
-use Rattle.fancy_regex_program.specs.Shapes.{IsAllowed}
+use Rattle.fancy_regex_program.specs.declared.insn.Callee.{Callee}
 use Rattle.fancy_regex_program.specs.declared.insn.Insn.{Insn}
+use Rattle.fancy_regex_compiler.specs.Needs.{IsAllowedUnder}
 use Rattle.fancy_regex_compiler.specs.declared.program_builder.ProgramBuilder.{ProgramBuilder}
 use Rattle.fancy_regex_compiler.specs.declared.emitter.Emitter.{Emitter}
 use Rattle.fancy_regex_compiler.specs.declared.emitter.CompileContext.{CompileContext}
+use Rattle.fancy_regex_compiler.specs.declared.emitter.Need.{Need}
 use Rattle.fancy_regex_compiler.specs.declared.emitter.Scope.{Scope}
 
 -- the operations so far, and the text of literals that waits after them
@@ -63,31 +67,39 @@ unfoldable pub ended : ℕ → ℕ → Draft → Draft
 ended at end d = ended_by at end (slice_get d.ops at) d
 
 -- with the program of a pattern after it
-unfoldable pub with_pat : Bool → Bool → CorePattern → ℕ → Draft → Draft
-with_pat unicode whole p slot d = record {
-  ops = d.ops ++ code_of (in_class unicode) (folded unicode) whole p d.text (length d.ops) slot;
-  text = waits p d.text;
+unfoldable pub with_pat : Layout → Bool → Bool → CorePattern → ℕ → Draft → Draft
+with_pat layout unicode whole p slot d = record {
+  ops = d.ops ++ code_with (in_class unicode) (folded unicode) whole layout p d.text (length d.ops) slot;
+  text = waits_with layout p d.text;
 }
 
+-- where calls stay calls: the draft of a target stands for its place
+abbrev pub draft_place : Arc Callee Global → Place
+draft_place draft = place_of draft.value
+
+abbrev pub layout_of : CompileContext → Layout
+layout_of context k = option_map draft_place (slice_get context.drafts.now.items k)
+
 -- The program of the pattern was written, with its slots from the one number on up to the other.
-pub record Wrote (unicode whole : Bool) (old new : Emitter) (slot after : ℕ) (p : CorePattern) : Type 0 where
-  pub draft : draft_of new.body ≡ with_pat unicode whole p slot (draft_of old.body)
-  pub slots : after ≡ slot + slots_in p
+pub record Wrote (layout : Layout) (unicode whole : Bool) (old new : Emitter) (slot after : ℕ) (p : CorePattern) : Type 0 where
+  pub draft : draft_of new.body ≡ with_pat layout unicode whole p slot (draft_of old.body)
+  pub slots : after ≡ slot + slots_with layout p
   pub opened : new.opened.items ≡ old.opened.items
 
 -- A branch with a jump after it to that place; the text that waited before it is an operation already.
-abbrev pub with_choice : Bool → Bool → ℕ → CorePattern → ℕ → Draft → Draft
-with_choice unicode whole end p slot d =
+abbrev pub with_choice : Layout → Bool → Bool → ℕ → CorePattern → ℕ → Draft → Draft
+with_choice layout unicode whole end p slot d =
     let first = with_op (split 0 0) d in
-    let all = with_op (jump end) (closed_draft (with_pat unicode whole p slot first)) in
+    let all = with_op (jump end) (closed_draft (with_pat layout unicode whole p slot first)) in
     patched (length d.ops) (split (length first.ops) (length all.ops)) all
 
 -- The instruction is all that the node without children is.
 pub record IsInsn (unicode : Bool) (insn : Insn) (t : Tree) : Type 0 where
-  pub draft : (whole : Bool) (call : ℕ → CorePattern) (n slot : ℕ) (us : List Written) (d : Draft) →
-      with_pat unicode whole (front_of call n t us) slot d ≡ added (op_of insn) d
-  pub slots : (call : ℕ → CorePattern) (n : ℕ) (us : List Written) → slots_in (front_of call n t us) ≡ 0
-  pub allowed : (keeps : Bool) (call : ℕ → CorePattern) (n : ℕ) (us : List Written) → IsAllowed unicode keeps (front_of call n t us)
+  pub draft : (layout : Layout) (whole : Bool) (call : ℕ → CorePattern) (n slot : ℕ) (us : List Written) (d : Draft) →
+      with_pat layout unicode whole (front_of call n t us) slot d ≡ added (op_of insn) d
+  pub slots : (layout : Layout) (call : ℕ → CorePattern) (n : ℕ) (us : List Written) → slots_with layout (front_of call n t us) ≡ 0
+  pub allowed : (layout : Layout) (all : List Need) (keeps : Bool) (call : ℕ → CorePattern) (n : ℕ) (us : List Written) →
+      IsAllowedUnder layout all unicode keeps (front_of call n t us)
 
 -- what the analysis says of the groups, by their numbers
 abbrev pub info_at : Bor Info → InfoTree

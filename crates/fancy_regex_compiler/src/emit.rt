@@ -2,10 +2,11 @@
 //! function takes the first free slot and returns the next one; the errors are those of `compile`. What emitting gives is said once,
 //! in `specs/Tasks.antt`: `EmitsTask` for a task, `EmitsPattern` for a pattern, `Begins` for a construct.
 
-ghost use Rattle.std.specs.Prelude.{◌≡◌, ◌<◌, ◌+◌, ℕ, List, [], ◌∷◌, ◌++◌, length, false, true, slice_get, IfOk, IfErr, Some, None};
+ghost use Rattle.std.specs.List.{Contains};
+ghost use Rattle.std.specs.Prelude.{◌≡◌, ◌<◌, ◌+◌, ℕ, List, [], ◌∷◌, ◌++◌, length, vec_len, false, true, slice_get, IfOk, IfErr, Some, None};
 ghost use Rattle.fancy_regex_meaning.specs.Ways.{is_at_call_limit as is_full_of};
 ghost use Rattle.fancy_regex_desugar.specs.CorePatterns as pat;
-ghost use Rattle.fancy_regex_desugar.specs.ProgramSizes.{room};
+ghost use Rattle.fancy_regex_desugar.specs.CorePatterns.{CorePattern};
 ghost use Rattle.fancy_regex_desugar.specs.Unfolded.{repeated, look};
 ghost use Rattle.fancy_regex_tree.specs.Tree.{tree_of};
 ghost use Rattle.fancy_regex_analysis.specs.AnalysisErrors.{is_too_complex};
@@ -16,31 +17,34 @@ ghost use Rattle.fancy_regex_compiler.specs.Known.{info_call};
 ghost use Rattle.fancy_regex_program.specs.Machine.{unset};
 ghost use Rattle.fancy_regex_program.specs.Ops as op;
 ghost use Rattle.fancy_regex_program.specs.Ops.{op_of};
+ghost use Rattle.fancy_regex_compiler.specs.Needs.{AreAmong, Notes, IsNoted};
 ghost use Rattle.fancy_regex_compiler.specs.Refusals.{IsReasonWhere, IsExpandedPart, IsExpandedBody, IsExpandedRepeat, IsExpandedAbsent};
 ghost use Rattle.fancy_regex_compiler.specs.Refusals.{IsExpandedConditional, IsExpandedTarget, looks_behind};
-ghost use Rattle.fancy_regex_program.specs.Shapes.{IsAllowed};
+ghost use Rattle.fancy_regex_program.specs.Code.{written_out};
 ghost use Rattle.fancy_regex_compiler.specs.Tasks.{listed, node_pattern, body_pattern, whole_pattern, LeadsOn, EmitsTask, EmitsPattern, Begins};
+ghost use Rattle.fancy_regex_compiler.specs.Tasks.{IsAllowedTask, IsExpandedTask, EmitsAll, past, progress, task_room};
 ghost use Rattle.fancy_regex_compiler.specs.Tasks.{call_work, info_work, infos_work, task_work, tasks_work};
-ghost use Rattle.fancy_regex_compiler.specs.Writing.{Wrote, added, draft_of, with_op, closed_draft, infos_of, part};
+ghost use Rattle.fancy_regex_compiler.specs.Writing.{added, draft_of, draft_place, layout_of, with_op, closed_draft, infos_of, part};
 ghost use Rattle.fancy_regex_compiler.specs.declared.emitter.CompileContext.{CompileContext as TheContext};
 ghost use Rattle.fancy_regex_compiler.specs.declared.emitter.Emitter.{Emitter as TheEmitter};
+ghost use Rattle.fancy_regex_compiler.specs.declared.emitter.Need.{Need as TheNeed};
 ghost use Rattle.fancy_regex_program.specs.declared.insn.Insn.TheVariants as the_insn;
 ghost use Rattle.fancy_regex_compiler.specs.declared.task.Task.TheVariants as the_task;
 
 use crate::closing::{Closing, absent_step, close};
-use crate::emitter::{CompileContext, Emitter, Scope, first_slot, past_slots};
+use crate::emitter::{CompileContext, Emitter, Need, Scope, first_slot, past_slots};
 use crate::leaf::{emit_leaf, not_supported};
 use crate::program_builder::ProgramBuilder;
 use crate::tail::tail_from;
 use crate::task::{Step, Task, Tasks};
 use fancy_regex_info::{CompileError, Info};
-use fancy_regex_program::{AbsentRepeater, Delegate, Insn};
+use fancy_regex_program::{AbsentRepeater, Callee, Delegate, Insn};
 use fancy_regex_tree::{Absent, Expr, LookAround};
 use std::alloc::{AllocError, Global};
 use std::slice;
 use std::sync::Arc;
 
-/// How often one group may be inlined inside of itself.
+/// How many calls of one group may be open: so often it is inlined inside of itself, and so many frames it has.
 pub(crate) const MAX_OPEN_CALLS_PER_GROUP: usize = 19;
 
 /// Emits a whole pattern; `slot` is the first free slot. Returns the first free slot after it.
@@ -51,17 +55,52 @@ pub(crate) fn emit<'i, 'e>(
     scope: Scope,
     slot: usize,
 ) -> Result<usize, CompileError>
+    ensures { EmitsAll context.now (whole_pattern context.now info.now scope emitter.old.opened.items) scope.may_keep
+        (λ tree_context. IsExpandedPart tree_context scope.may_keep scope.may_be_absent false (info_of info.now))
+        emitter.old emitter.new slot result }
+{
+    emit_all(context, emitter, Task::Whole { info, scope }, slot)
+}
+
+/// Emits the body of a group whose calls stay; `slot` is the first free slot. Returns the first free slot after it.
+pub(crate) fn emit_called<'i, 'e>(
+    context: &CompileContext<'_, 'i, 'e>,
+    emitter: &mut Emitter,
+    info: &'i Info<'e>,
+    scope: Scope,
+    slot: usize,
+) -> Result<usize, CompileError>
+    ensures { EmitsAll context.now (node_pattern context.now info.now false scope emitter.old.opened.items) scope.may_keep
+        (λ tree_context. IsExpandedPart tree_context scope.may_keep scope.may_be_absent false (info_of info.now))
+        emitter.old emitter.new slot result }
+{
+    let body = Task::Node {
+        info,
+        steps_back: false,
+        scope,
+    };
+    emit_all(context, emitter, body, slot)
+}
+
+/// Emits a task and all that it leads to.
+fn emit_all<'i, 'e>(
+    context: &CompileContext<'_, 'i, 'e>,
+    emitter: &mut Emitter,
+    begin: Task<'i, 'e>,
+    slot: usize,
+) -> Result<usize, CompileError>
     ensures cap { emitter.new.body.cap ≡ emitter.old.body.cap }
-    ensures full { IfErr result (IsFull emitter.old.body (room (whole_pattern context.now info.now scope emitter.old.opened.items))) }
-    ensures wrote { IfOk result (λ after. Wrote context.now.unicode context.now.whole emitter.old emitter.new slot after
-        (whole_pattern context.now info.now scope emitter.old.opened.items)) }
-    ensures allowed { IfOk result (λ after. IsAllowed context.now.unicode scope.may_keep
-        (whole_pattern context.now info.now scope emitter.old.opened.items)) }
+    ensures ends { IfOk result (λ after. progress emitter.new after ≡ past context.now begin.entry (progress emitter.old slot)) }
+    ensures allowed { IfOk result (λ after. (all : List TheNeed) → AreAmong emitter.new.needs.items all →
+        IsAllowedTask context.now begin.entry emitter.old.opened.items all) }
+    ensures notes { IfOk result (λ after. Notes (infos_of context.now) emitter.old.needs.items emitter.new.needs.items
+        (λ tree_context. IsExpandedTask tree_context begin.entry)) }
+    ensures full { IfErr result (IsFull emitter.old.body (task_room context.now begin.entry emitter.old.opened.items)) }
     ensures refused { IfErr result (IsReasonWhere context.now.unicode (infos_of context.now)
-        (λ tree_context. IsExpandedPart tree_context scope.may_keep scope.may_be_absent false (info_of info.now))) }
+        (λ tree_context. IsExpandedTask tree_context begin.entry)) }
 {
     let mut tasks = Vec::new(context.alloc);
-    tasks.push(Task::Whole { info, scope })?;
+    tasks.push(begin)?;
     let mut next = slot;
     while let Some(task) = tasks.pop() {
         let step = emit_task(context, emitter, task, next)?;
@@ -876,9 +915,8 @@ fn emit_conditional<'i, 'e>(
     ))
 }
 
-/// Begins a subroutine call, which is inlined: the body of its target, or `Fail` where the target is inlined inside of itself
-/// as often as is allowed. A call that writes nothing is done at once. One that writes nothing but characters is refused at once where
-/// there is no room for them. The error is `SubroutineCallTargetNotFound` if there is no such group.
+/// Begins a subroutine call: an instruction where calls of the target stay, and else what is written out. The error is
+/// `SubroutineCallTargetNotFound` if there is no such group.
 fn emit_call<'i, 'e>(
     context: &CompileContext<'_, 'i, 'e>,
     emitter: &mut Emitter,
@@ -896,6 +934,81 @@ fn emit_call<'i, 'e>(
             "{target}"
         )?));
     }
+    match context.drafts.get(target) {
+        Some(draft) => {
+            let need = Need {
+                group: target,
+                may_keep: scope.may_keep,
+                may_be_absent: scope.may_be_absent,
+            };
+            emit_kept_call(context, emitter, need, draft, slot)
+        }
+        None => emit_written_call(context, emitter, target, scope, slot),
+    }
+}
+
+/// Emits a call that stays, and notes what it needs.
+fn emit_kept_call<'i, 'e>(
+    context: &CompileContext<'_, 'i, 'e>,
+    emitter: &mut Emitter,
+    need: Need,
+    draft: &Arc<Callee>,
+    slot: usize,
+) -> Result<Step<'i, 'e>, CompileError>
+    requires there { need.group < length (infos_of context.now) }
+    requires stays { layout_of context.now need.group ≡ Some (draft_place draft.now) }
+    ensures { (p : CorePattern) → EmitsPattern context.now (pat.called need.group p) need.may_keep
+        (λ tree_context. IsExpandedTarget tree_context need.may_keep need.may_be_absent (infos_of context.now) need.group) 1
+        emitter.old emitter.new slot result }
+{
+    note_need(&mut emitter.needs, need)?;
+    emitter.body.flush_and_push(Insn::Call(draft.clone()?))?;
+    Ok(leads_to(slot, Tasks::Nothing))
+}
+
+/// Notes that a body is needed, unless it is noted already. The error is want of memory.
+fn note_need(needs: &mut Vec<Need>, need: Need) -> Result<(), AllocError>
+    ensures { IfOk result (λ _. IsNoted needs.old.items needs.new.items need) }
+{
+    if is_noted(needs, need) {
+        return Ok(());
+    }
+    needs.push(need)?;
+    Ok(())
+}
+
+/// Whether the body is noted.
+fn is_noted(needs: &[Need], need: Need) -> bool
+    ensures { result ≡ true → Contains needs.now need }
+{
+    for noted in needs {
+        if noted.group == need.group
+            && noted.may_keep == need.may_keep
+            && noted.may_be_absent == need.may_be_absent
+        {
+            return true;
+        }
+    }
+    false
+}
+
+/// Begins a call that is written out: the body of its target, or `Fail` where the target is inlined inside of itself as often as is
+/// allowed. A call that writes nothing is done at once. One that writes nothing but characters is refused at once where there is no room
+/// for them.
+fn emit_written_call<'i, 'e>(
+    context: &CompileContext<'_, 'i, 'e>,
+    emitter: &mut Emitter,
+    target: usize,
+    scope: Scope,
+    slot: usize,
+) -> Result<Step<'i, 'e>, CompileError>
+    requires there { target < vec_len context.now.groups.now }
+    requires written { layout_of context.now ≡ written_out }
+    ensures { EmitsPattern context.now
+        (info_call (infos_of context.now) scope.calls_left emitter.old.opened.items target) scope.may_keep
+        (λ tree_context. IsExpandedTarget tree_context scope.may_keep scope.may_be_absent (infos_of context.now) target)
+        (1 + call_work (infos_of context.now) scope.calls_left target) emitter.old emitter.new slot result }
+{
     if let Some(characters) = context
         .texts
         .characters(&emitter.opened, scope.calls_left, target)

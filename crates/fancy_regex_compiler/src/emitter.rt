@@ -1,6 +1,9 @@
 //! The state of the compiler while it emits a program.
 
-ghost use Rattle.std.specs.Prelude.{◌≡◌, ◌≤◌, ◌+◌, ◌*◌, ◌^◌, false, IfOk, IfErr};
+ghost use Rattle.std.specs.Prelude.{◌≡◌, ◌≤◌, ◌+◌, ◌*◌, ◌^◌, ℕ, false, length, slice_get, Some, IfOk, IfErr};
+ghost use Rattle.std.specs.declared.alloc.Global.{Global as TheGlobal};
+ghost use Rattle.std.specs.declared.sync.Arc.{Arc as TheArc};
+ghost use Rattle.fancy_regex_program.specs.declared.insn.Callee.{Callee as TheCallee};
 ghost use Rattle.fancy_regex_analysis.specs.AnalysisErrors.{is_too_complex};
 ghost use Rattle.fancy_regex_compiler.specs.CalledTexts.{AreTexts, infos_at};
 ghost use Rattle.fancy_regex_compiler.specs.Refusals.{IsMemoryOrTooComplex};
@@ -10,7 +13,9 @@ use crate::class_table::ClassTable;
 use crate::part_table::PartTable;
 use crate::program_builder::ProgramBuilder;
 use fancy_regex_info::{CompileError, Info};
+use fancy_regex_program::Callee;
 use std::alloc::Global;
+use std::sync::Arc;
 
 /// What is fixed for one compilation.
 #[derive(Clone, Copy)]
@@ -25,10 +30,26 @@ pub(crate) struct CompileContext<'g, 'i, 'e> {
     pub unicode: bool,
     /// The groups that write nothing but characters.
     pub texts: &'g CalledTexts,
+    /// A draft for each group, by its number, where calls stay calls: it stands for the group until its place is known. Where there is
+    /// none, calls are written out.
+    pub drafts: &'g Vec<Arc<Callee>>,
     ghost are_texts: { AreTexts (infos_at groups.now.items) texts.now.lengths.items texts.now.known },
+    ghost all_drafted: { (length drafts.now.items ≡ 0 → ⊥) → length drafts.now.items ≡ length groups.now.items },
+    ghost are_named: { (k : ℕ) (draft : TheArc TheCallee TheGlobal) → slice_get drafts.now.items k ≡ Some draft → draft.value.start ≡ k },
 }
 
-/// The program so far, and the calls that are being inlined.
+/// A group whose body is needed, since a call of it stays, and what is allowed where the call stands.
+#[derive(Clone, Copy, PartialEq, Eq)]
+pub(crate) struct Need {
+    /// The number of the group.
+    pub group: usize,
+    /// Whether `\K` is allowed there.
+    pub may_keep: bool,
+    /// Whether an absent repeater is allowed there.
+    pub may_be_absent: bool,
+}
+
+/// The program so far, the calls that are being inlined, and those that stay.
 #[derive(Drop)]
 pub(crate) struct Emitter {
     /// The instructions so far.
@@ -39,6 +60,8 @@ pub(crate) struct Emitter {
     pub parts: PartTable,
     /// The targets of the open calls, the innermost last.
     pub opened: Vec<usize>,
+    /// The bodies that are needed, each once, in the order in which they were met.
+    pub needs: Vec<Need>,
 }
 
 /// The context of a subexpression.

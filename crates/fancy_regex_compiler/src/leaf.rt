@@ -11,8 +11,9 @@ ghost use Rattle.fancy_regex_compiler.specs.Known.{front_of};
 ghost use Rattle.fancy_regex_program.specs.Ops as op;
 ghost use Rattle.fancy_regex_program.specs.Ops.{op_of};
 ghost use Rattle.fancy_regex_compiler.specs.Refusals.{IsMissing, IsMissingAs, IsMemoryOrTooComplex, IsNoVerb, IsNoGroup, IsNoSingle, IsNoLeaf};
-ghost use Rattle.fancy_regex_program.specs.Shapes.{IsAllowed};
+ghost use Rattle.fancy_regex_compiler.specs.Tasks.{IsLetThrough};
 ghost use Rattle.fancy_regex_compiler.specs.Writing.{IsInsn};
+ghost use Rattle.fancy_regex_compiler.specs.declared.emitter.Need.{Need as TheNeed};
 
 use crate::class_table::ClassTable;
 use crate::emitter::{CompileContext, Emitter, Scope, first_slot};
@@ -32,8 +33,8 @@ pub(crate) fn emit_leaf(
 ) -> Result<(), CompileError>
     ensures writes { (call : ℕ → CorePattern) (n : ℕ) (us : List Written) →
         Writes context.now emitter.old emitter.new result (front_of call n (tree_of leaf.now) us) }
-    ensures allowed { IfOk result (λ _. (call : ℕ → CorePattern) (n : ℕ) (us : List Written) →
-        IsAllowed context.now.unicode scope.may_keep (front_of call n (tree_of leaf.now) us)) }
+    ensures allowed { IfOk result (λ _. (all : List TheNeed) (call : ℕ → CorePattern) (n : ℕ) (us : List Written) →
+        IsLetThrough context.now scope.may_keep (front_of call n (tree_of leaf.now) us) all) }
     ensures refused { IfErr result (IsNoLeaf context.now.unicode (length context.now.groups.now.items) scope.may_keep (tree_of leaf.now)) }
 {
     match leaf {

@@ -1,8 +1,10 @@
-//! The compiler from an analyzed pattern to a program of the backtracking machine. Subroutine calls are inlined, so the length of
-//! a program is bounded by sixteen instructions for each node with calls inlined, and sixteen more; a cap on the length is kept.
+//! The compiler from an analyzed pattern to a program of the backtracking machine. Subroutine calls are inlined in programs of up to
+//! 1,000 instructions, and where a cap on the length is set, which is kept. The length of such a program is bounded by sixteen instructions
+//! for each node with calls inlined, and sixteen more. In longer programs the body of each called group stands once, and calls enter it.
 #![tactic(auto)]
 
 mod called_texts;
+mod calls;
 mod class_table;
 mod closing;
 mod compiler;
@@ -12,6 +14,7 @@ mod groups;
 mod lazy;
 mod leaf;
 mod literal_table;
+mod main_program;
 mod part_table;
 mod parts;
 mod program_builder;
@@ -19,5 +22,5 @@ mod tail;
 mod task;
 mod writing;
 
-pub use compiler::compile;
+pub use compiler::{compile, compile_within};
 pub use fancy_regex_compiled::Prog;

@@ -21,7 +21,7 @@ use Rattle.fancy_regex_meta.specs.declared.options.RegexOptions.{RegexOptions}
 use Rattle.fancy_regex_meta.specs.declared.strategy.Strategy.{Strategy}
 use Rattle.fancy_regex_meta.specs.declared.strategy.Strategy.TheVariants.{Easy, Linear, Program, Regular}
 
--- The program is the compiled program of the tree's pattern, with calls inlined.
+-- The program is the compiled program of the tree's pattern, with its calls written out or kept.
 pub record IsCompiled (prog : Prog) (t : Tree) : Type 0 where
   pub program : IsProgramOf prog (pattern_of t) false
   pub whole : prog.whole ≡ true

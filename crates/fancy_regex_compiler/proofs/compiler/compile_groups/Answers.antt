@@ -10,7 +10,7 @@ use Rattle.fancy_regex_compiler.specs.Known.{pat_with}
 use Rattle.fancy_regex_compiler.specs.Writing.{info_at}
 use Rattle.fancy_regex_compiler.specs.Refusals.{IsReasonWhere, IsExpandedPart}
 use Rattle.fancy_regex_compiler.proofs.CapLemmas.{within, past, handed}
-use Rattle.fancy_regex_compiler.proofs.WholeLemmas.{whole_is_valid}
+use Rattle.fancy_regex_compiler.proofs.KeptWhole.{written_is_valid}
 use Rattle.fancy_regex_compiler.proofs.compiler.compile_groups.Goals as goal
 
 pub returns-clause-cap : goal.returns-clause-cap
@@ -37,9 +37,8 @@ returns-in-Err-clause-refused c =
 pub returns-then-not-is_valid_program-clause-refused : goal.returns-then-not-is_valid_program-clause-refused
 returns-then-not-is_valid_program-clause-refused c = λ writable.
     let program = c.in-Ok.written in
-    let pattern = pat_with (map info_at c.args.groups.now.items) (info_of c.args.info.now) in
     let valid : IsValidProgram (ops_of program.0.items) program.1 =
-    whole_is_valid c.args.options.now.unicode c.args.whole c.args.options.now.anchored (length c.args.groups.now.items) pattern program.0.items program.1
-    c.in-Ok.ensures.wrote c.in-Ok.ensures.allowed writable in
+    written_is_valid c.args.options.now.max_prog_size c.args.most c.args.options.now.unicode c.args.whole c.args.options.now.anchored (map info_at c.args.groups.now.items) (info_of c.args.info.now)
+    program.0.items program.1 c.in-Ok.ensures.wrote c.in-Ok.ensures.allowed writable in
     let complete = rw c.deref.ensures.value at c.is_valid_program.ensures.complete in
     λ tree_context analyzed part. true≢false (sym (complete valid) ∙ c.if-not-is_valid_program.true)

@@ -3,7 +3,7 @@ use Rattle.fancy_regex_desugar.specs.CorePatterns.{absent}
 use Rattle.fancy_regex_info.specs.Infos.{info_of}
 use Rattle.fancy_regex_compiler.specs.Refusals.{IsExpandedAbsent}
 use Rattle.fancy_regex_compiler.specs.Tasks.{node_pattern}
-use Rattle.fancy_regex_compiler.specs.Writing.{added, draft_of, infos_of}
+use Rattle.fancy_regex_compiler.specs.Writing.{added, draft_of, infos_of, layout_of}
 use Rattle.fancy_regex_compiler.proofs.EmitLemmas.{drew_absent}
 use Rattle.fancy_regex_compiler.proofs.OutcomeLemmas.{never_full, emits_want}
 use Rattle.fancy_regex_compiler.proofs.RoomLemmas.{room_absent}
@@ -15,10 +15,10 @@ returns c context = record {
   cap = c.in_ok-scan.ensures.appends.cap;
   leads =
       let a = node_pattern context c.args.child.now false c.args.scope c.args.emitter.now.opened.items in
-      leads_enclosed_node context c.args.emitter.now (record { body = c.begin_loop.new.body; classes = c.args.emitter.now.classes; opened = c.args.emitter.now.opened; parts = c.args.emitter.now.parts }) c.args.slot c.args.scope.may_keep (absent a)
+      leads_enclosed_node context c.args.emitter.now (record { body = c.begin_loop.new.body; classes = c.args.emitter.now.classes; opened = c.args.emitter.now.opened; parts = c.args.emitter.now.parts; needs = c.args.emitter.now.needs }) c.args.slot c.args.scope.may_keep (absent a)
       (λ tree_context. IsExpandedAbsent tree_context c.args.scope.may_be_absent (info_of c.args.child.now)) c.enclosed_node.result c.in_ok-inside.inside _ _ _ _ c.enclosed_node.ensures.tasks c.enclosed_node.ensures.slot
-      (drew_absent context.unicode context.whole a c.args.slot c.in_ok-inside.inside c.in_ok-limit.limit c.in_ok-scan.scan _ (draft_of c.args.emitter.now.body) _ (draft_of c.begin_loop.new.body) _ _ _ _ c.in_ok-limit.ensures.value c.in_ok-inside.ensures.value (ap (λ o. added o (draft_of c.args.emitter.now.body)) c.in_ok-begin.ensures) c.in_ok-scan.ensures.head c.in_ok-scan.ensures.appends.draft refl refl refl refl refl)
-      (omega (arith, c.in_ok-inside.ensures.value)) refl (λ h. h) (omega (arith, c.in_ok-scan.ensures.appends.long, room_absent a)) (λ tree_context s h. h.child);
+      (drew_absent (layout_of context) context.unicode context.whole a c.args.slot c.in_ok-inside.inside c.in_ok-limit.limit c.in_ok-scan.scan _ (draft_of c.args.emitter.now.body) _ (draft_of c.begin_loop.new.body) _ _ _ _ c.in_ok-limit.ensures.value c.in_ok-inside.ensures.value (ap (λ o. added o (draft_of c.args.emitter.now.body)) c.in_ok-begin.ensures) c.in_ok-scan.ensures.head c.in_ok-scan.ensures.appends.draft refl refl refl refl refl)
+      (omega (arith, c.in_ok-inside.ensures.value)) refl refl (λ all h. h) (omega (arith, c.in_ok-scan.ensures.appends.long, room_absent (layout_of context) a)) (λ tree_context s h. h.child);
   work = c.enclosed_node.ensures.work (infos_of context);
   full = tt;
   refused = tt;
@@ -41,4 +41,4 @@ returns-in_err-scan c context =
     let r = c.from_residual-in_err-scan in
     let a = node_pattern context c.args.child.now false c.args.scope c.args.emitter.now.opened.items in
     emits_want r.result e.field-0.0 r.ensures.1 e.ensures.appends.cap
-    (λ too. let lt = e.ensures.appends.full too in omega (arith, lt, room_absent a)) e.ensures.appends.refused
+    (λ too. let lt = e.ensures.appends.full too in omega (arith, lt, room_absent (layout_of context) a)) e.ensures.appends.refused

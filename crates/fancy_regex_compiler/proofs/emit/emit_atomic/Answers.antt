@@ -4,7 +4,7 @@ use Rattle.fancy_regex_desugar.specs.CorePatterns.{atomic}
 use Rattle.fancy_regex_info.specs.Infos.{info_of}
 use Rattle.fancy_regex_compiler.specs.Refusals.{IsExpandedBody}
 use Rattle.fancy_regex_compiler.specs.Tasks.{body_pattern}
-use Rattle.fancy_regex_compiler.specs.Writing.{draft_of}
+use Rattle.fancy_regex_compiler.specs.Writing.{draft_of, layout_of}
 use Rattle.fancy_regex_compiler.proofs.OutcomeLemmas.{begins_error}
 use Rattle.fancy_regex_compiler.proofs.EmitLemmas.{drew_atomic}
 use Rattle.fancy_regex_compiler.proofs.RoomLemmas.{room_atomic}
@@ -16,10 +16,10 @@ returns c = record {
   cap = c.in_ok-flush_and_push.ensures.cap;
   leads = λ context.
       let a = body_pattern context false c.args.body.now c.args.child.now c.args.scope c.args.emitter.now.opened.items in
-      leads_enclosed_body context c.args.emitter.now (record { body = c.flush_and_push.new.self; classes = c.args.emitter.now.classes; opened = c.args.emitter.now.opened; parts = c.args.emitter.now.parts }) c.args.slot c.args.scope.may_keep (atomic a)
+      leads_enclosed_body context c.args.emitter.now (record { body = c.flush_and_push.new.self; classes = c.args.emitter.now.classes; opened = c.args.emitter.now.opened; parts = c.args.emitter.now.parts; needs = c.args.emitter.now.needs }) c.args.slot c.args.scope.may_keep (atomic a)
       (λ tree_context. IsExpandedBody tree_context c.args.scope.may_keep c.args.scope.may_be_absent false (tree_of c.args.body.now) (info_of c.args.child.now)) c.enclosed_body.result c.in_ok-inside.inside _ _ _ _ _ c.enclosed_body.ensures.tasks c.enclosed_body.ensures.slot
-      (drew_atomic context.unicode context.whole a c.args.slot c.in_ok-inside.inside (draft_of c.args.emitter.now.body) (draft_of c.flush_and_push.new.self) _ _ c.in_ok-inside.ensures.value c.in_ok-flush_and_push.ensures.draft refl refl)
-      (omega (arith, c.in_ok-inside.ensures.value)) refl (λ h. h) (omega (arith, c.in_ok-flush_and_push.ensures.long, room_atomic a)) (λ tree_context s h. h);
+      (drew_atomic (layout_of context) context.unicode context.whole a c.args.slot c.in_ok-inside.inside (draft_of c.args.emitter.now.body) (draft_of c.flush_and_push.new.self) _ _ c.in_ok-inside.ensures.value c.in_ok-flush_and_push.ensures.draft refl refl)
+      (omega (arith, c.in_ok-inside.ensures.value)) refl refl (λ all h. h) (omega (arith, c.in_ok-flush_and_push.ensures.long, room_atomic (layout_of context) a)) (λ tree_context s h. h);
   work = c.enclosed_body.ensures.work;
   full = tt;
   refused = tt;

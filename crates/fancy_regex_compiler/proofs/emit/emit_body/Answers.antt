@@ -8,7 +8,7 @@ use Rattle.fancy_regex_info.specs.Infos.{info_of}
 use Rattle.fancy_regex_program.specs.Parts.{IsDelegateOf, IsDelegateIfAny}
 use Rattle.fancy_regex_compiler.specs.Refusals.{IsExpandedBody}
 use Rattle.fancy_regex_compiler.specs.Tasks.{listed, node_pattern, tasks_work}
-use Rattle.fancy_regex_compiler.specs.Writing.{infos_of}
+use Rattle.fancy_regex_compiler.specs.Writing.{layout_of, infos_of}
 use Rattle.fancy_regex_program.specs.declared.delegate.Delegate.{Delegate}
 use Rattle.fancy_regex_compiler.specs.declared.emitter.Emitter.{Emitter}
 use Rattle.fancy_regex_compiler.specs.declared.task.Step.{Step}
@@ -34,9 +34,9 @@ returns-in_ok-flush_and_push-in-Some c = record {
   leads =
       let context = c.args.context.now in
       let old = c.args.emitter.now in
-      let new : Emitter = record { body = c.flush_and_push.new.self; classes = old.classes; opened = old.opened; parts = c.delegate.new.self } in
+      let new : Emitter = record { body = c.flush_and_push.new.self; classes = old.classes; opened = old.opened; parts = c.delegate.new.self; needs = old.needs } in
       leads_delegate context old new c.args.slot c.args.for_any (tree_of c.args.body.now) (node_pattern context c.args.info.now false c.args.scope old.opened.items) c.in-Some.part (delegate_is c.args.context.now.unicode c.args.for_any (tree_of c.args.body.now) c.in-Some.is c.in_ok-part.ensures.value)
-      c.in_ok-flush_and_push-in-Some.ensures.draft refl c.args.scope.may_keep
+      c.in_ok-flush_and_push-in-Some.ensures.draft refl refl c.args.scope.may_keep
       (λ tree_context. IsExpandedBody tree_context c.args.scope.may_keep c.args.scope.may_be_absent false (tree_of c.args.body.now) (info_of c.args.info.now))
       c.leads_to.result c.leads_to.ensures;
   work = let this = ap (λ (s : Step). tasks_work (infos_of c.args.context.now) (listed s.tasks)) c.leads_to.ensures in omega (arith, this);
@@ -47,7 +47,7 @@ returns-in_ok-flush_and_push-in-Some c = record {
 pub returns-in_err-flush_and_push-in-Some : goal.returns-in_err-flush_and_push-in-Some
 returns-in_err-flush_and_push-in-Some c =
     let context = c.args.context.now in
-    let rooms = delegated_room c.args.for_any (tree_of c.args.body.now) (node_pattern context c.args.info.now false c.args.scope c.args.emitter.now.opened.items) (delegate_is c.args.context.now.unicode c.args.for_any (tree_of c.args.body.now) c.in-Some.is c.in_ok-part.ensures.value).delegated in
+    let rooms = delegated_room (layout_of context) c.args.for_any (tree_of c.args.body.now) (node_pattern context c.args.info.now false c.args.scope c.args.emitter.now.opened.items) (delegate_is c.args.context.now.unicode c.args.for_any (tree_of c.args.body.now) c.in-Some.is c.in_ok-part.ensures.value).delegated in
     let e = c.in_err-flush_and_push-in-Some in
     emits_want c.from_residual-in_err-flush_and_push-in-Some.result e.field-0.0 c.from_residual-in_err-flush_and_push-in-Some.ensures.1 e.ensures.cap
     (λ too. let lt = e.ensures.full too in omega (arith, lt, rooms)) e.ensures.refused
@@ -59,7 +59,7 @@ returns-in-None c =
     (none_is c.args.context.now.unicode c.args.for_any (tree_of c.args.body.now) c.in-None.is c.in_ok-part.ensures.value) step_is in
     record {
       cap = refl;
-      leads = record { ends = h.ends; allowed = h.allowed; fits = h.fits; stands = h.stands };
+      leads = record { ends = h.ends; allowed = h.allowed; fits = h.fits; stands = h.stands; notes = h.notes };
       work = let this = ap (λ (s : Step). tasks_work (infos_of c.args.context.now) (listed s.tasks)) step_is in omega (arith, this);
       full = tt;
       refused = tt;

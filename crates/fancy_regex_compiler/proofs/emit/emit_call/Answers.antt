@@ -1,117 +1,20 @@
-use Rattle.std.proofs.Common.{◌≡◌, suc, ◌-◌, option_map, refl, sym, ap, ◌∙◌, subst, arith}
-use Rattle.std.proofs.lemmas.Option.{slice_get-map, slice_get_read}
-use Rattle.fancy_regex_meaning.specs.Ways.{is_at_call_limit}
-use Rattle.fancy_regex_desugar.specs.CorePatterns.{fail, called}
-use Rattle.fancy_regex_desugar.specs.ProgramSizes.{room}
-use Rattle.fancy_regex_compiler.specs.CalledTexts.{IsText, IsFree}
+use Rattle.std.proofs.Common.{◌+◌, arith}
+use Rattle.fancy_regex_desugar.specs.CorePatterns.{called}
 use Rattle.fancy_regex_compiler.specs.Known.{info_call}
 use Rattle.fancy_regex_compiler.specs.Refusals.{TreeContext, IsExpandedTarget}
-use Rattle.fancy_regex_compiler.specs.Tasks.{LeadsTo, tasks_work, listed}
-use Rattle.fancy_regex_compiler.specs.Writing.{infos_of, info_at}
-use Rattle.fancy_regex_compiler.specs.declared.emitter.Emitter.{Emitter}
-use Rattle.fancy_regex_compiler.specs.declared.emitter.Scope.{Scope}
-use Rattle.fancy_regex_compiler.specs.declared.task.Step.{Step}
-use Rattle.fancy_regex_compiler.proofs.BranchSteps.{leads_call, leads_no_call}
-use Rattle.fancy_regex_compiler.proofs.CalledTextLemmas.{wrote_silent, silent_allowed}
-use Rattle.fancy_regex_compiler.proofs.OutcomeLemmas.{emits_want}
-use Rattle.fancy_regex_compiler.proofs.RoomLemmas.{room_fail, room_called}
-use Rattle.fancy_regex_compiler.proofs.RowLemmas.{call_full, call_none}
-use Rattle.fancy_regex_compiler.proofs.StepLemmas.{leads_nothing, with_node}
-use Rattle.fancy_regex_compiler.proofs.WorkLemmas.{body_less}
+use Rattle.fancy_regex_compiler.specs.Tasks.{call_work}
+use Rattle.fancy_regex_compiler.specs.Writing.{infos_of}
+use Rattle.fancy_regex_compiler.proofs.OutcomeLemmas.{emits_as}
+use Rattle.fancy_regex_compiler.proofs.RowLemmas.{call_shape}
 use Rattle.fancy_regex_compiler.proofs.emit.emit_call.Goals as goal
-use Rattle.fancy_regex_compiler.proofs.emit.emit_call.Goals.{then-is_at_call_limit-via-then-is_at_call_limit, then-is_at_call_limit-via-else-is_at_call_limit+then-scope-eq0}
 
--- what is known of a call that writes nothing but characters
-pub returns-then-characters-eq0 : goal.returns-then-characters-eq0
-returns-then-characters-eq0 c =
-    let context = c.args.context.now in
-    let groups = infos_of context in
-    let old = c.args.emitter.now in
+pub returns-in-Some : goal.returns-in-Some
+returns-in-Some c =
+    let groups = infos_of c.args.context.now in
     let scope = c.args.scope in
     let k = c.args.target in
-    let n = c.in-Some.characters in
-    let p = info_call groups scope.calls_left old.opened.items k in
-    let known = c.in-Some.ensures in
-    let text : IsText n p = context.are_texts k n scope.calls_left old.opened.items known.target known.left
-    (subst (IsFree context.texts.now.lengths.items n) c.deref.ensures.value known.free) in
-    let silent = text.silent c.if-characters-eq0.true in
-    record {
-      cap = refl;
-      leads =
-          leads_nothing context old old c.args.slot scope.may_keep p (λ tree_context. IsExpandedTarget tree_context scope.may_keep scope.may_be_absent groups k) c.leads_to.result
-          c.leads_to.ensures (wrote_silent context.unicode context.whole old c.args.slot p silent) (omega arith) (silent_allowed context.unicode scope.may_keep p silent);
-      work = let this = ap (λ (s : Step). tasks_work groups (listed s.tasks)) c.leads_to.ensures in omega (arith, this);
-      full = tt;
-      refused = tt;
-    }
-
-pub returns-then-is_at_call_limit : goal.returns-then-is_at_call_limit
-returns-then-is_at_call_limit c =
-    let context = c.args.context.now in
-    let groups = infos_of context in
     let opened = c.args.emitter.now.opened.items in
-    let m = c.args.scope.calls_left in
-    let k = c.args.target in
-    let fails : info_call groups m opened k ≡ called k fail = elim c.then-is_at_call_limit.branch [
-      | then-is_at_call_limit-via-then-is_at_call_limit w ↦ call_full groups m opened k (ap (λ l. is_at_call_limit l k) (sym c.deref-2.ensures.value) ∙ sym c.is_at_call_limit.ensures ∙ w.if-is_at_call_limit.true)
-      | then-is_at_call_limit-via-else-is_at_call_limit+then-scope-eq0 w ↦ call_none groups m opened k w.if-scope-eq0.true
-    ] in
-    record {
-      cap = c.in_ok-flush_and_push.ensures.cap;
-      leads =
-          leads_no_call context c.args.emitter.now c.flush_and_push.new.self c.args.slot c.args.scope.may_keep k _
-          (λ tree_context. IsExpandedTarget tree_context c.args.scope.may_keep c.args.scope.may_be_absent groups k) c.leads_to-then-is_at_call_limit.result fails c.leads_to-then-is_at_call_limit.ensures
-          c.in_ok-flush_and_push.ensures.draft c.in_ok-flush_and_push.ensures.long;
-      work = let this = ap (λ (s : Step). tasks_work groups (listed s.tasks)) c.leads_to-then-is_at_call_limit.ensures in omega (arith, this);
-      full = tt;
-      refused = tt;
-    }
-
-pub returns-in_err-flush_and_push : goal.returns-in_err-flush_and_push
-returns-in_err-flush_and_push c =
-    let groups = infos_of c.args.context.now in
-    let opened = c.args.emitter.now.opened.items in
-    let m = c.args.scope.calls_left in
-    let k = c.args.target in
-    let fails : info_call groups m opened k ≡ called k fail = elim c.then-is_at_call_limit.branch [
-      | then-is_at_call_limit-via-then-is_at_call_limit w ↦ call_full groups m opened k (ap (λ l. is_at_call_limit l k) (sym c.deref-2.ensures.value) ∙ sym c.is_at_call_limit.ensures ∙ w.if-is_at_call_limit.true)
-      | then-is_at_call_limit-via-else-is_at_call_limit+then-scope-eq0 w ↦ call_none groups m opened k w.if-scope-eq0.true
-    ] in
-    let e = c.in_err-flush_and_push in
-    emits_want c.from_residual-in_err-flush_and_push.result e.field-0.0 c.from_residual-in_err-flush_and_push.ensures.1 e.ensures.cap
-    (λ too. let lt = e.ensures.full too in omega (arith, lt, ap room fails, room_called k fail, room_fail)) e.ensures.refused
-
-pub returns : goal.returns
-returns c = record {
-  cap = refl;
-  leads =
-      let context = c.args.context.now in
-      let groups = context.groups.now.items in
-      let k = c.args.target in
-      let x = c.index-body.result.now in
-      let old = c.args.emitter.now in
-      let new : Emitter = record { body = old.body; classes = old.classes; opened = c.push.new.self; parts = old.parts } in
-      let p = info_call (infos_of context) c.args.scope.calls_left old.opened.items k in
-      let inner : Scope = record { calls_left = c.args.scope.calls_left - 1; may_keep = c.args.scope.may_keep; may_be_absent = c.args.scope.may_be_absent } in
-      let some = c.if-scope-eq0.false in
-      let more : c.args.scope.calls_left ≡ suc (c.args.scope.calls_left - 1) = omega (arith, some) in
-      let at = slice_get-map info_at groups k ∙ ap (option_map info_at) (slice_get_read groups c.len.result k x (omega (arith, c.len.ensures, context.groups.now.ok.0)) c.if-target-len.false c.index-body.ensures) in
-      let free = ap (λ xs. is_at_call_limit xs k) (sym c.deref-2.ensures.value) ∙ sym c.is_at_call_limit.ensures ∙ c.if-is_at_call_limit.false in
-      subst (λ r. LeadsTo context p c.args.scope.may_keep
-      (λ (tree_context : TreeContext). IsExpandedTarget tree_context c.args.scope.may_keep c.args.scope.may_be_absent (infos_of context) k) old new c.args.slot r)
-      (sym (with_node _ _ _ _ _ c.leads_to-2.ensures c.node_task.ensures))
-      (leads_call context old new c.args.slot (c.args.scope.calls_left - 1) k c.args.scope inner x more refl refl refl at free refl c.in_ok-push.ensures.items);
-  work =
-      let context = c.args.context.now in
-      let groups = context.groups.now.items in
-      let k = c.args.target in
-      let x = c.index-body.result.now in
-      let inner : Scope = record { calls_left = c.args.scope.calls_left - 1; may_keep = c.args.scope.may_keep; may_be_absent = c.args.scope.may_be_absent } in
-      let some = c.if-scope-eq0.false in
-      let more : c.args.scope.calls_left ≡ suc (c.args.scope.calls_left - 1) = omega (arith, some) in
-      let at = slice_get-map info_at groups k ∙ ap (option_map info_at) (slice_get_read groups c.len.result k x (omega (arith, c.len.ensures, context.groups.now.ok.0)) c.if-target-len.false c.index-body.ensures) in
-      let this = ap (λ (s : Step). tasks_work (infos_of context) (listed s.tasks)) (with_node _ _ _ _ _ c.leads_to-2.ensures c.node_task.ensures) in
-      omega (arith, this, body_less (infos_of context) c.args.scope inner k x.now more at);
-  full = tt;
-  refused = tt;
-}
+    let S = λ (tree_context : TreeContext). IsExpandedTarget tree_context scope.may_keep scope.may_be_absent groups k in
+    let shape = call_shape groups scope.calls_left opened k in
+    emits_as scope.may_keep (called k shape.0) (info_call groups scope.calls_left opened k) S S 1 (1 + call_work groups scope.calls_left k)
+    (c.emit_kept_call.ensures shape.0) shape.1 (λ tree_context s h. h) (omega arith)

@@ -1,12 +1,11 @@
 use Rattle.std.proofs.Common.{◌≡◌, true, false, map, refl, sym, ap, ◌∙◌, subst, arith}
-use Rattle.fancy_regex_desugar.specs.ProgramSizes.{room}
 use Rattle.fancy_regex_desugar.specs.Unfolded.{alt_all}
 use Rattle.fancy_regex_info.specs.Infos.{info_of}
 use Rattle.fancy_regex_info.specs.declared.info.Info.TheViews.{out-Info}
 use Rattle.fancy_regex_compiler.specs.Known.{info_call}
 use Rattle.fancy_regex_compiler.specs.Refusals.{IsExpandedPart, AreExpandedParts}
-use Rattle.fancy_regex_compiler.specs.Tasks.{node_pattern, branches_pattern, tasks_work, listed}
-use Rattle.fancy_regex_compiler.specs.Writing.{infos_of, part}
+use Rattle.fancy_regex_compiler.specs.Tasks.{room_of, node_pattern, branches_pattern, tasks_work, listed}
+use Rattle.fancy_regex_compiler.specs.Writing.{layout_of, infos_of, part}
 use Rattle.fancy_regex_compiler.specs.declared.task.Step.{Step}
 use Rattle.fancy_regex_compiler.specs.declared.task.Task.TheVariants as task
 use Rattle.fancy_regex_compiler.proofs.NodeLemmas.{behind_always, behind_alt}
@@ -23,14 +22,14 @@ returns-then-info c =
     record {
       cap = c.emit_node.ensures.cap ∙ c.in_ok-flush_and_push.ensures.cap;
       leads =
-          leads_back c.emit_node.result c.args.context.now c.args.emitter.now (record { body = c.flush_and_push.new.self; classes = c.args.emitter.now.classes; opened = c.args.emitter.now.opened; parts = c.args.emitter.now.parts }) c.emit_node.new.emitter c.args.slot c.args.scope.may_keep (out-Info c.args.info.now).min_size
+          leads_back c.emit_node.result c.args.context.now c.args.emitter.now (record { body = c.flush_and_push.new.self; classes = c.args.emitter.now.classes; opened = c.args.emitter.now.opened; parts = c.args.emitter.now.parts; needs = c.args.emitter.now.needs }) c.emit_node.new.emitter c.args.slot c.args.scope.may_keep (out-Info c.args.info.now).min_size
           (node_pattern c.args.context.now c.args.info.now false c.args.scope c.args.emitter.now.opened.items) (node_pattern c.args.context.now c.args.info.now true c.args.scope c.args.emitter.now.opened.items)
           (λ tree_context. IsExpandedPart tree_context c.args.scope.may_keep c.args.scope.may_be_absent false (info_of c.args.info.now)) (λ tree_context. IsExpandedPart tree_context c.args.scope.may_keep c.args.scope.may_be_absent true (info_of c.args.info.now))
-          (behind_always call c.args.info.now c.if-info.true) c.in_ok-flush_and_push.ensures.draft refl c.in_ok-flush_and_push.ensures.long
+          (behind_always call c.args.info.now c.if-info.true) c.in_ok-flush_and_push.ensures.draft refl refl c.in_ok-flush_and_push.ensures.long
           (λ tree_context s h. in_front tree_context c.args.scope.may_keep c.args.scope.may_be_absent true (info_of c.args.info.now) h) c.emit_node.ensures.leads;
       work = c.emit_node.ensures.work;
       full =
-          full_behind c.emit_node.result c.args.emitter.now.body c.flush_and_push.new.self (out-Info c.args.info.now).min_size (behind_always call c.args.info.now c.if-info.true)
+          full_behind (layout_of c.args.context.now) c.emit_node.result c.args.emitter.now.body c.flush_and_push.new.self (out-Info c.args.info.now).min_size (behind_always call c.args.info.now c.if-info.true)
           c.in_ok-flush_and_push.ensures.cap c.in_ok-flush_and_push.ensures.long c.emit_node.ensures.full;
       refused =
           reason_weaker c.emit_node.result c.args.context.now.unicode (infos_of c.args.context.now) (λ tree_context. IsExpandedPart tree_context c.args.scope.may_keep c.args.scope.may_be_absent false (info_of c.args.info.now)) (λ tree_context. IsExpandedPart tree_context c.args.scope.may_keep c.args.scope.may_be_absent true (info_of c.args.info.now))
@@ -43,7 +42,7 @@ returns-in_err-flush_and_push c =
     let p = node_pattern c.args.context.now c.args.info.now false c.args.scope c.args.emitter.now.opened.items in
     let e = c.in_err-flush_and_push in
     emits_want c.from_residual.result e.field-0.0 c.from_residual.ensures.1 e.ensures.cap
-    (λ too. let lt = e.ensures.full too in omega (arith, lt, ap room (behind_always call c.args.info.now c.if-info.true), room_behind (out-Info c.args.info.now).min_size p))
+    (λ too. let lt = e.ensures.full too in omega (arith, lt, ap (room_of c.args.context.now) (behind_always call c.args.info.now c.if-info.true), room_behind (layout_of c.args.context.now) (out-Info c.args.info.now).min_size p))
     e.ensures.refused
 
 pub returns-in-Alt : goal.returns-in-Alt
@@ -57,7 +56,7 @@ returns-in-Alt c = record {
       (λ tree_context. IsExpandedPart tree_context c.args.scope.may_keep c.args.scope.may_be_absent true (info_of c.args.info.now)) c.leads_to.result
       (behind_alt call c.args.info.now c.in-Alt.field-0 c.if-info.false c.in-Alt.is
       ∙ ap (λ xs. alt_all (map (λ x. (part c.args.context.now c.args.scope c.args.emitter.now.opened.items x).behind) xs)) (sym c.deref.ensures.value))
-      c.leads_to.ensures refl (λ h. h) refl (omega arith)
+      c.leads_to.ensures refl (λ all h. h) refl (omega arith)
       (λ tree_context s h. subst (AreExpandedParts tree_context c.args.scope.may_keep c.args.scope.may_be_absent true) (sym c.deref.ensures.value) (kids_behind tree_context c.args.scope.may_keep c.args.scope.may_be_absent c.args.info.now c.in-Alt.field-0 c.if-info.false c.in-Alt.is h));
   work =
       let this = ap (λ (s : Step). tasks_work (infos_of c.args.context.now) (listed s.tasks)) c.leads_to.ensures in

@@ -4,21 +4,20 @@ use Rattle.fancy_regex_tree.specs.Tree.{tree_of}
 use Rattle.fancy_regex_tree.specs.declared.expr.Absent.TheVariants as absents
 use Rattle.fancy_regex_tree.specs.declared.expr.Expr.{Expr}
 use Rattle.fancy_regex_desugar.specs.CorePatterns.{nothing, group, atomic, conditional, absent, CorePattern}
-use Rattle.fancy_regex_desugar.specs.ProgramSizes.{room}
 use Rattle.fancy_regex_desugar.specs.Unfolded.{repeated, look}
 use Rattle.fancy_regex_info.specs.Infos.{properties_in, info_of}
 use Rattle.fancy_regex_info.specs.declared.info.Info.{Info}
 use Rattle.fancy_regex_info.specs.declared.info.Info.TheViews.{out-Info}
 use Rattle.fancy_regex_compiler.specs.Known.{info_call}
 use Rattle.fancy_regex_compiler.specs.Refusals.{TreeContext, IsReasonWhere, IsExpandedPart, AreExpandedParts, IsExpandedBody, IsExpandedRepeat, IsExpandedAbsent, IsExpandedConditional, IsExpandedTarget, looks_behind}
-use Rattle.fancy_regex_program.specs.Shapes.{IsAllowed}
-use Rattle.fancy_regex_compiler.specs.Tasks.{node_pattern, body_pattern, row_pattern, branches_pattern, listed, tasks_work, info_work, call_work, Begins}
-use Rattle.fancy_regex_compiler.specs.Writing.{Wrote, infos_of, info_at, part}
+use Rattle.fancy_regex_compiler.specs.Tasks.{room_of, IsLetThrough, node_pattern, body_pattern, row_pattern, branches_pattern, listed, tasks_work, info_work, call_work, Begins}
+use Rattle.fancy_regex_compiler.specs.Writing.{layout_of, Wrote, infos_of, info_at, part}
 use Rattle.fancy_regex_compiler.specs.declared.emitter.CompileContext.{CompileContext}
 use Rattle.fancy_regex_compiler.specs.declared.emitter.Scope.{Scope}
 use Rattle.fancy_regex_compiler.specs.declared.task.Step.{Step}
 use Rattle.fancy_regex_compiler.specs.declared.task.Task.TheVariants as task
 use Rattle.fancy_regex_compiler.proofs.KindLemmas.{NoParts}
+use Rattle.fancy_regex_compiler.proofs.NeedLemmas.{none_noted, same_noted}
 use Rattle.fancy_regex_compiler.proofs.NodeLemmas.{info_known, front_leaf, front_empty, front_define, front_concat, front_alt, front_group, front_look, front_repeat, front_atomic, front_conditional, front_call, front_absent}
 use Rattle.fancy_regex_compiler.proofs.OutcomeLemmas.{never_full, emits_error, emits_as, emits_begun}
 use Rattle.fancy_regex_compiler.proofs.RefusalLemmas.{for_want, absent_stops, kid_group, body_atomic, kid_absent, body_look, kid_repeat, kids_conditional, kids_concat, kids_alt, target_stands, leaf_reason, lacks_group, lacks_atomic, lacks_look, lacks_repeat, lacks_absent, lacks_condition, lacks_yes, lacks_no}
@@ -44,10 +43,10 @@ returns-in_ok-child-in-Group c =
     let number : (out-Info c.args.info.now).start_group ≡ c.start_group.result = sym (ap (λ x. (properties_in x).start) (info_known c.args.info.now)) ∙ sym c.start_group.ensures in
     let is : q ≡ group c.start_group.result a =
     front_group call c.args.info.now c.in-Group.field-0 child c.in-Group.is c.in_ok-child-in-Group.ensures.value ∙ ap (λ n. group n a) number in
-    let rooms = ap room is in
+    let rooms = ap (room_of c.args.context.now) is in
     emits_begun c.args.context.now q S w c.emit_group.ensures is
     (λ tree_context s h. kid_group tree_context c.args.scope.may_keep c.args.scope.may_be_absent c.args.info.now child c.in-Group.field-0 c.in-Group.is c.in_ok-child-in-Group.ensures.value h)
-    (omega (arith, rooms, room_group c.start_group.result a))
+    (omega (arith, rooms, room_group (layout_of c.args.context.now) c.start_group.result a))
     (omega (arith, child_less (infos_of c.args.context.now) c.args.scope c.args.info.now 0 child c.in_ok-child-in-Group.ensures.value))
 
 pub returns-in_ok-child-in-AtomicGroup : goal.returns-in_ok-child-in-AtomicGroup
@@ -61,13 +60,13 @@ returns-in_ok-child-in-AtomicGroup c =
     let old = c.args.emitter.now in
     let body = λ (context : CompileContext) (e : Expr). body_pattern context false e child c.args.scope old.opened.items in
     let is : q ≡ atomic (body c.args.context.now c.in-AtomicGroup.body.value) = front_atomic call c.args.info.now c.in-AtomicGroup.body child c.in-AtomicGroup.is c.in_ok-child-in-AtomicGroup.ensures.value in
-    let rooms = ap room is in
+    let rooms = ap (room_of c.args.context.now) is in
     let begun = subst (λ (e : Expr). Begins old c.emit_atomic.new.emitter c.args.slot c.emit_atomic.result c.args.scope.may_keep (λ (context : CompileContext). atomic (body context e))
     (λ tree_context. IsExpandedBody tree_context c.args.scope.may_keep c.args.scope.may_be_absent false (tree_of e) (info_of child))
     (λ groups. 3 + info_work groups c.args.scope child)) is_body c.emit_atomic.ensures in
     emits_begun c.args.context.now q S w begun is
     (λ tree_context s h. body_atomic tree_context c.args.scope.may_keep c.args.scope.may_be_absent c.args.info.now child c.in-AtomicGroup.body c.in-AtomicGroup.is c.in_ok-child-in-AtomicGroup.ensures.value h)
-    (omega (arith, rooms, room_atomic (body c.args.context.now c.in-AtomicGroup.body.value)))
+    (omega (arith, rooms, room_atomic (layout_of c.args.context.now) (body c.args.context.now c.in-AtomicGroup.body.value)))
     (omega (arith, child_less (infos_of c.args.context.now) c.args.scope c.args.info.now 0 child c.in_ok-child-in-AtomicGroup.ensures.value))
 
 pub returns-in_ok-child-in-LookAround : goal.returns-in_ok-child-in-LookAround
@@ -83,13 +82,13 @@ returns-in_ok-child-in-LookAround c =
     let at = λ (context : CompileContext). part context c.args.scope old.opened.items child in
     let t = tree_of c.in-LookAround.body.value in
     let is : q ≡ look t how (at c.args.context.now) = front_look call c.args.info.now c.in-LookAround.body how child c.in-LookAround.is c.in_ok-child-in-LookAround.ensures.value in
-    let rooms = ap room is in
+    let rooms = ap (room_of c.args.context.now) is in
     let begun = subst (λ (e : Expr). Begins old c.emit_look_around.new.emitter c.args.slot c.emit_look_around.result c.args.scope.may_keep (λ (context : CompileContext). look (tree_of e) how (at context))
     (λ tree_context. IsExpandedBody tree_context false c.args.scope.may_be_absent (looks_behind how) (tree_of e) (info_of child))
     (λ groups. 3 + info_work groups c.args.scope child)) is_body c.emit_look_around.ensures in
     emits_begun c.args.context.now q S w begun is
     (λ tree_context s h. body_look tree_context c.args.scope.may_keep c.args.scope.may_be_absent (infos_of c.args.context.now) c.args.info.now child c.in-LookAround.body how c.in-LookAround.is c.in_ok-child-in-LookAround.ensures.value s h)
-    (omega (arith, rooms, room_look t how (at c.args.context.now)))
+    (omega (arith, rooms, room_look (layout_of c.args.context.now) t how (at c.args.context.now)))
     (omega (arith, child_less (infos_of c.args.context.now) c.args.scope c.args.info.now 0 child c.in_ok-child-in-LookAround.ensures.value))
 
 pub returns-in_ok-child-in-Repeater : goal.returns-in_ok-child-in-Repeater
@@ -123,14 +122,14 @@ returns-in_ok-child_at-in-Conditional-2 c =
     let body = λ (context : CompileContext) (e : Expr). body_pattern context false e tested c.args.scope old.opened.items in
     let is : q ≡ conditional (body c.args.context.now c.in-Conditional.condition.value) (at c.args.context.now yes) (at c.args.context.now no) =
     front_conditional call c.args.info.now c.in-Conditional.condition c.in-Conditional.true_branch c.in-Conditional.false_branch tested yes no c.in-Conditional.is c.in_ok-tested-in-Conditional.ensures.value c.in_ok-child_at-in-Conditional.ensures.value c.in_ok-child_at-in-Conditional-2.ensures.value in
-    let rooms = ap room is in
+    let rooms = ap (room_of c.args.context.now) is in
     let begun = subst (λ (e : Expr). Begins old c.emit_conditional.new.emitter c.args.slot c.emit_conditional.result c.args.scope.may_keep
     (λ (context : CompileContext). conditional (body context e) (at context yes) (at context no))
     (λ tree_context. IsExpandedConditional tree_context c.args.scope.may_keep c.args.scope.may_be_absent (tree_of e) (info_of tested) (info_of yes) (info_of no))
     (λ groups. 10 + (info_work groups c.args.scope tested + (info_work groups c.args.scope yes + info_work groups c.args.scope no)))) is_body c.emit_conditional.ensures in
     emits_begun c.args.context.now q S w begun is
     (λ tree_context s h. kids_conditional tree_context c.args.scope.may_keep c.args.scope.may_be_absent c.args.info.now tested yes no c.in-Conditional.condition c.in-Conditional.true_branch c.in-Conditional.false_branch c.in-Conditional.is c.in_ok-tested-in-Conditional.ensures.value c.in_ok-child_at-in-Conditional.ensures.value c.in_ok-child_at-in-Conditional-2.ensures.value h)
-    (omega (arith, rooms, room_conditional (body c.args.context.now c.in-Conditional.condition.value) (at c.args.context.now yes) (at c.args.context.now no)))
+    (omega (arith, rooms, room_conditional (layout_of c.args.context.now) (body c.args.context.now c.in-Conditional.condition.value) (at c.args.context.now yes) (at c.args.context.now no)))
     (omega (arith, three_less (infos_of c.args.context.now) c.args.scope c.args.info.now tested yes no c.in_ok-tested-in-Conditional.ensures.value c.in_ok-child_at-in-Conditional.ensures.value c.in_ok-child_at-in-Conditional-2.ensures.value))
 
 pub returns-in_ok-child-in-Repeat : goal.returns-in_ok-child-in-Repeat
@@ -188,7 +187,7 @@ returns-in_err-emit_leaf-in_default c =
     let us = map (part c.args.context.now c.args.scope c.args.emitter.now.opened.items) (out-Info i).children.items in
     let writes = e.ensures.writes call (out-Info i).start_group us in
     emits_error r.result e.field-0.0 r.ensures.1 writes.cap
-    (λ too. let lt = writes.full too in omega (arith, lt, ap room (front_leaf call i)))
+    (λ too. let lt = writes.full too in omega (arith, lt, ap (room_of c.args.context.now) (front_leaf call i)))
     (λ tree_context s h. leaf_reason tree_context c.args.scope.may_keep c.args.scope.may_be_absent u gs i count e.field-0.0 (sym (length-map c.args.context.now.groups.now.items info_at)) other s h e.ensures.refused)
 
 pub returns-in_default-absent : goal.returns-in_default-absent
@@ -296,14 +295,15 @@ returns-in_ok-emit_leaf-in_default c =
     let us = map (part c.args.context.now c.args.scope c.args.emitter.now.opened.items) (out-Info i).children.items in
     let e = c.in_ok-emit_leaf-in_default.ensures in
     let writes = e.writes call (out-Info i).start_group us in
-    let wrote = subst (λ p. Wrote c.args.context.now.unicode c.args.context.now.whole c.args.emitter.now c.emit_leaf.new.emitter c.args.slot c.args.slot p) (sym (front_leaf call i))
+    let wrote = subst (λ p. Wrote (layout_of c.args.context.now) c.args.context.now.unicode c.args.context.now.whole c.args.emitter.now c.emit_leaf.new.emitter c.args.slot c.args.slot p) (sym (front_leaf call i))
     (writes.wrote c.args.slot) in
     record {
       cap = writes.cap;
       leads =
           leads_nothing c.args.context.now c.args.emitter.now c.emit_leaf.new.emitter c.args.slot c.args.scope.may_keep q (λ tree_context. IsExpandedPart tree_context c.args.scope.may_keep c.args.scope.may_be_absent false (info_of c.args.info.now)) c.leads_to-in_default.result
           c.leads_to-in_default.ensures wrote (took wrote)
-          (subst (IsAllowed c.args.context.now.unicode c.args.scope.may_keep) (sym (front_leaf call i)) (e.allowed call (out-Info i).start_group us));
+          (λ all among. subst (λ p. IsLetThrough c.args.context.now c.args.scope.may_keep p all) (sym (front_leaf call i)) (e.allowed all call (out-Info i).start_group us))
+          (same_noted (infos_of c.args.context.now) c.args.emitter.now.needs.items c.emit_leaf.new.emitter.needs.items (λ tree_context. IsExpandedPart tree_context c.args.scope.may_keep c.args.scope.may_be_absent false (info_of c.args.info.now)) writes.needs);
       work = let this = ap (λ (s : Step). tasks_work (infos_of c.args.context.now) (listed s.tasks)) c.leads_to-in_default.ensures in
           omega (arith, this, least_work (infos_of c.args.context.now) c.args.scope c.args.info.now);
       full = tt;
@@ -319,7 +319,8 @@ returns-in-Empty c =
       cap = refl;
       leads =
           leads_nothing c.args.context.now c.args.emitter.now c.args.emitter.now c.args.slot c.args.scope.may_keep q (λ tree_context. IsExpandedPart tree_context c.args.scope.may_keep c.args.scope.may_be_absent false (info_of c.args.info.now)) c.leads_to.result c.leads_to.ensures
-          (wrote_nothing c.args.context.now.unicode c.args.context.now.whole c.args.emitter.now c.args.slot q is) (omega arith) (subst (IsAllowed c.args.context.now.unicode c.args.scope.may_keep) (sym is) tt);
+          (wrote_nothing (layout_of c.args.context.now) c.args.context.now.unicode c.args.context.now.whole c.args.emitter.now c.args.slot q is) (omega arith) (λ all among. subst (λ p. IsLetThrough c.args.context.now c.args.scope.may_keep p all) (sym is) tt)
+          (none_noted (infos_of c.args.context.now) c.args.emitter.now.needs.items (λ tree_context. IsExpandedPart tree_context c.args.scope.may_keep c.args.scope.may_be_absent false (info_of c.args.info.now)));
       work =
           let this = ap (λ (s : Step). tasks_work (infos_of c.args.context.now) (listed s.tasks)) c.leads_to.ensures in
           omega (arith, this, least_work (infos_of c.args.context.now) c.args.scope c.args.info.now);
@@ -336,7 +337,8 @@ returns-in-DefineGroup c =
       cap = refl;
       leads =
           leads_nothing c.args.context.now c.args.emitter.now c.args.emitter.now c.args.slot c.args.scope.may_keep q (λ tree_context. IsExpandedPart tree_context c.args.scope.may_keep c.args.scope.may_be_absent false (info_of c.args.info.now)) c.leads_to-in-DefineGroup.result c.leads_to-in-DefineGroup.ensures
-          (wrote_nothing c.args.context.now.unicode c.args.context.now.whole c.args.emitter.now c.args.slot q is) (omega arith) (subst (IsAllowed c.args.context.now.unicode c.args.scope.may_keep) (sym is) tt);
+          (wrote_nothing (layout_of c.args.context.now) c.args.context.now.unicode c.args.context.now.whole c.args.emitter.now c.args.slot q is) (omega arith) (λ all among. subst (λ p. IsLetThrough c.args.context.now c.args.scope.may_keep p all) (sym is) tt)
+          (none_noted (infos_of c.args.context.now) c.args.emitter.now.needs.items (λ tree_context. IsExpandedPart tree_context c.args.scope.may_keep c.args.scope.may_be_absent false (info_of c.args.info.now)));
       work =
           let this = ap (λ (s : Step). tasks_work (infos_of c.args.context.now) (listed s.tasks)) c.leads_to-in-DefineGroup.ensures in
           omega (arith, this, least_work (infos_of c.args.context.now) c.args.scope c.args.info.now);
@@ -353,7 +355,7 @@ returns-in-Concat c =
       leads =
           leads_one_step c.args.context.now c.args.emitter.now c.args.slot c.args.scope.may_keep (row_pattern c.args.context.now b.now c.args.scope c.args.emitter.now.opened.items) (node_pattern c.args.context.now c.args.info.now false c.args.scope c.args.emitter.now.opened.items) (task.Row b c.args.scope) (λ tree_context. IsExpandedPart tree_context c.args.scope.may_keep c.args.scope.may_be_absent false (info_of c.args.info.now)) c.leads_to-in-Concat.result
           (front_concat call c.args.info.now c.in-Concat.field-0 c.in-Concat.is ∙ ap (λ xs. row_pattern c.args.context.now xs c.args.scope c.args.emitter.now.opened.items) (sym c.deref.ensures.value))
-          c.leads_to-in-Concat.ensures refl (λ h. h) refl (omega arith)
+          c.leads_to-in-Concat.ensures refl (λ all h. h) refl (omega arith)
           (λ tree_context s h. subst (AreExpandedParts tree_context c.args.scope.may_keep c.args.scope.may_be_absent false) (sym c.deref.ensures.value) (kids_concat tree_context c.args.scope.may_keep c.args.scope.may_be_absent c.args.info.now c.in-Concat.field-0 c.in-Concat.is h));
       work =
           let this = ap (λ (s : Step). tasks_work (infos_of c.args.context.now) (listed s.tasks)) c.leads_to-in-Concat.ensures in
@@ -371,7 +373,7 @@ returns-in-Alt c =
       leads =
           leads_one_step c.args.context.now c.args.emitter.now c.args.slot c.args.scope.may_keep (branches_pattern c.args.context.now b.now false c.args.scope c.args.emitter.now.opened.items) (node_pattern c.args.context.now c.args.info.now false c.args.scope c.args.emitter.now.opened.items) (task.Branches b false c.args.scope) (λ tree_context. IsExpandedPart tree_context c.args.scope.may_keep c.args.scope.may_be_absent false (info_of c.args.info.now)) c.leads_to-in-Alt.result
           (front_alt call c.args.info.now c.in-Alt.field-0 c.in-Alt.is ∙ ap (λ xs. branches_pattern c.args.context.now xs false c.args.scope c.args.emitter.now.opened.items) (sym c.deref-in-Alt.ensures.value))
-          c.leads_to-in-Alt.ensures refl (λ h. h) refl (omega arith)
+          c.leads_to-in-Alt.ensures refl (λ all h. h) refl (omega arith)
           (λ tree_context s h. subst (AreExpandedParts tree_context c.args.scope.may_keep c.args.scope.may_be_absent false) (sym c.deref-in-Alt.ensures.value) (kids_alt tree_context c.args.scope.may_keep c.args.scope.may_be_absent c.args.info.now c.in-Alt.field-0 c.in-Alt.is h));
       work =
           let this = ap (λ (s : Step). tasks_work (infos_of c.args.context.now) (listed s.tasks)) c.leads_to-in-Alt.ensures in

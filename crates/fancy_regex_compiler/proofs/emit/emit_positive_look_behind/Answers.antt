@@ -3,7 +3,7 @@ use Rattle.fancy_regex_desugar.specs.CorePatterns.{ahead}
 use Rattle.fancy_regex_info.specs.Infos.{info_of}
 use Rattle.fancy_regex_compiler.specs.Refusals.{IsExpandedPart}
 use Rattle.fancy_regex_compiler.specs.Tasks.{node_pattern}
-use Rattle.fancy_regex_compiler.specs.Writing.{draft_of}
+use Rattle.fancy_regex_compiler.specs.Writing.{draft_of, layout_of}
 use Rattle.fancy_regex_compiler.proofs.OutcomeLemmas.{begins_error}
 use Rattle.fancy_regex_compiler.proofs.EmitLemmas.{drew_ahead}
 use Rattle.fancy_regex_compiler.proofs.RoomLemmas.{room_ahead}
@@ -15,10 +15,10 @@ returns c = record {
   cap = c.in_ok-flush_and_push.ensures.cap;
   leads = λ context.
       let a = node_pattern context c.args.info.now true c.args.scope c.args.emitter.now.opened.items in
-      leads_enclosed_node context c.args.emitter.now (record { body = c.flush_and_push.new.self; classes = c.args.emitter.now.classes; opened = c.args.emitter.now.opened; parts = c.args.emitter.now.parts }) c.args.slot c.args.scope.may_keep (ahead a)
+      leads_enclosed_node context c.args.emitter.now (record { body = c.flush_and_push.new.self; classes = c.args.emitter.now.classes; opened = c.args.emitter.now.opened; parts = c.args.emitter.now.parts; needs = c.args.emitter.now.needs }) c.args.slot c.args.scope.may_keep (ahead a)
       (λ tree_context. IsExpandedPart tree_context false c.args.scope.may_be_absent true (info_of c.args.info.now)) c.enclosed_node.result c.in_ok-inside.inside _ _ _ _ c.enclosed_node.ensures.tasks c.enclosed_node.ensures.slot
-      (drew_ahead context.unicode context.whole a c.args.slot c.in_ok-inside.inside (draft_of c.args.emitter.now.body) (draft_of c.flush_and_push.new.self) _ _ c.in_ok-inside.ensures.value c.in_ok-flush_and_push.ensures.draft refl refl)
-      (omega (arith, c.in_ok-inside.ensures.value)) refl (λ h. h) (omega (arith, c.in_ok-flush_and_push.ensures.long, room_ahead a)) (λ tree_context s h. h);
+      (drew_ahead (layout_of context) context.unicode context.whole a c.args.slot c.in_ok-inside.inside (draft_of c.args.emitter.now.body) (draft_of c.flush_and_push.new.self) _ _ c.in_ok-inside.ensures.value c.in_ok-flush_and_push.ensures.draft refl refl)
+      (omega (arith, c.in_ok-inside.ensures.value)) refl refl (λ all h. h) (omega (arith, c.in_ok-flush_and_push.ensures.long, room_ahead (layout_of context) a)) (λ tree_context s h. h);
   work = c.enclosed_node.ensures.work;
   full = tt;
   refused = tt;

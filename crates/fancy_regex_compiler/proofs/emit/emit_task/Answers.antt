@@ -75,7 +75,7 @@ returns-in_ok-close-in-Close c =
     let task_is = ap (task_work (infos_of context)) c.in-Close.is in
     record {
       cap = c.in_ok-close-in-Close.ensures.cap;
-      leads = subst (λ t. LeadsOn context t old (record { body = c.close.new.body; classes = old.classes; opened = old.opened; parts = old.parts }) c.args.slot c.leads_to-in-Close.result) (sym c.in-Close.is)
+      leads = subst (λ t. LeadsOn context t old (record { body = c.close.new.body; classes = old.classes; opened = old.opened; parts = old.parts; needs = old.needs }) c.args.slot c.leads_to-in-Close.result) (sym c.in-Close.is)
           (leads_close context old c.close.new.body c.args.slot c.in-Close.closing (λ tree_context. Unit {0}) c.leads_to-in-Close.result c.leads_to-in-Close.ensures c.in_ok-close-in-Close.ensures.draft);
       work = omega (arith, this, task_is);
       full = tt;
@@ -95,14 +95,14 @@ returns-in-EndCall c =
     let old = c.args.emitter.now in
     let opened = old.opened in
     let long : vec_len opened ≡ length opened.items = omega (arith, opened.ok.0) in
-    let new : Emitter = record { body = old.body; classes = old.classes; opened = c.pop.new.self; parts = old.parts } in
+    let new : Emitter = record { body = old.body; classes = old.classes; opened = c.pop.new.self; parts = old.parts; needs = old.needs } in
     let this = ap (λ (s : Step). tasks_work (infos_of context) (listed s.tasks)) c.leads_to-in-EndCall.ensures in
     let task_is = ap (task_work (infos_of context)) c.in-EndCall.is in
     record {
       cap = refl;
       leads = subst (λ t. LeadsOn context t old new c.args.slot c.leads_to-in-EndCall.result) (sym c.in-EndCall.is)
           (leads_end_call context old new c.args.slot (λ tree_context. Unit {0}) c.leads_to-in-EndCall.result c.leads_to-in-EndCall.ensures refl
-          (c.pop.ensures.rest ∙ ap (λ n. take (n - 1) opened.items) long));
+          (c.pop.ensures.rest ∙ ap (λ n. take (n - 1) opened.items) long) refl);
       work = omega (arith, this, task_is);
       full = tt;
       refused = tt;

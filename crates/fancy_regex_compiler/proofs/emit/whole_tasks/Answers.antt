@@ -1,13 +1,11 @@
 use Rattle.std.proofs.Common.{◌≡◌, false, [], ◌∷◌, map, take, drop, refl, sym, ap, ◌∙◌, subst, arith}
 use Rattle.fancy_regex_tree.specs.Tree.{tree_of, trees}
-use Rattle.fancy_regex_desugar.specs.ProgramSizes.{room}
 use Rattle.fancy_regex_info.specs.Infos.{info_of}
 use Rattle.fancy_regex_info.specs.declared.info.Info.TheViews.{out-Info}
 use Rattle.fancy_regex_compiler.specs.Known.{info_call}
 use Rattle.fancy_regex_compiler.specs.Refusals.{TreeContext, IsExpandedPart}
-use Rattle.fancy_regex_program.specs.Shapes.{IsAllowed}
 use Rattle.fancy_regex_compiler.specs.Tails.{SplitsRow}
-use Rattle.fancy_regex_compiler.specs.Tasks.{node_pattern, whole_pattern, past_pattern, progress, infos_work, task_work, Leads}
+use Rattle.fancy_regex_compiler.specs.Tasks.{room_of, IsLetThrough, node_pattern, whole_pattern, past_pattern, progress, infos_work, task_work, Leads}
 use Rattle.fancy_regex_compiler.specs.Writing.{infos_of}
 use Rattle.fancy_regex_compiler.specs.declared.task.Task.TheVariants as task
 use Rattle.fancy_regex_compiler.proofs.RefusalLemmas.{kids_concat}
@@ -53,7 +51,7 @@ returns-in_default c = record {
       let q = whole_pattern context i scope e.opened.items in
       let S = λ (tree_context : TreeContext). IsExpandedPart tree_context scope.may_keep scope.may_be_absent false (info_of i) in
       let is : q ≡ p = whole_single (info_call (infos_of context) scope.calls_left e.opened.items) i (no_concat (out-Info i).expr.now c.in_default.not-Concat) in
-      subst (λ t. Leads context e e slot slot (t ∷ []) (past_pattern context q (progress e slot)) (IsAllowed context.unicode scope.may_keep q) (room q) S) (sym c.node_task.ensures)
-      (leads_one context e slot scope.may_keep p q (task.Node c.args.info false scope) S is refl (λ h. h) refl (omega arith) (λ tree_context s stand. stand));
+      subst (λ t. Leads context e e slot slot (t ∷ []) (past_pattern context q (progress e slot)) (IsLetThrough context scope.may_keep q) (room_of context q) S) (sym c.node_task.ensures)
+      (leads_one context e slot scope.may_keep p q (task.Node c.args.info false scope) S is refl (λ all h. h) refl (omega arith) (λ tree_context s stand. stand));
   work = λ groups. let this = ap (task_work groups) c.node_task.ensures in omega (arith, this);
 }

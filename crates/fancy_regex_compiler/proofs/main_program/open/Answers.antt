@@ -3,8 +3,8 @@ use Rattle.fancy_regex_tree.specs.Tree.{Text}
 use Rattle.fancy_regex_program.specs.Ops as op
 use Rattle.fancy_regex_program.specs.Code.{opening}
 use Rattle.fancy_regex_compiler.specs.Writing.{Draft, draft_of, with_op}
-use Rattle.fancy_regex_compiler.proofs.compiler.open.Goals as goal
-use Rattle.fancy_regex_compiler.proofs.compiler.open.Goals.{then-not-anchored+in_ok-push_insn, else-not-anchored, then-whole+in_ok-push_insn-2, else-whole}
+use Rattle.fancy_regex_compiler.proofs.main_program.open.Goals as goal
+use Rattle.fancy_regex_compiler.proofs.main_program.open.Goals.{then-not-anchored+in_ok-push_insn, else-not-anchored, then-whole+in_ok-push_insn-2, else-whole}
 
 begun : (anchored whole : Bool) (d0 d1 d2 : Draft) → d0 ≡ record { ops = []; text = [] } →
     d1 ≡ cond anchored d0 (with_op op.split_unanchored d0) → d2 ≡ cond whole (with_op (op.save 0) d1) d1 →

@@ -1,0 +1,25 @@
+use Rattle.std.proofs.Common.{refl}
+use Rattle.std.proofs.lemmas.Option.{slice_get_read}
+use Rattle.fancy_regex_compiler.proofs.MetLemmas.{info_there, met_ok, met_err}
+use Rattle.fancy_regex_compiler.proofs.calls.try_body.Goals as goal
+
+pub returns-in_err-emit_called-clause-needs : goal.returns-in_err-emit_called-clause-needs
+returns-in_err-emit_called-clause-needs c =
+    let context = c.args.context.now in
+    let groups = context.groups.now.items in
+    let need = c.args.need in
+    let x = c.index.result.now in
+    let at = info_there groups need.group x c.requires (slice_get_read groups _ need.group x refl c.requires c.index.ensures) in
+    met_err context need x.now at c.args.emitter.now.opened.items c.args.emitter.now _ c.emit_called.new.emitter c.emit_called.new.emitter c.scope_of.result 0 c.scope_of.ensures refl refl
+    c.from_residual.result c.in_err-emit_called.field-0.0 c.from_residual.ensures.1 c.in_err-emit_called.ensures
+
+pub returns-clause-needs : goal.returns-clause-needs
+returns-clause-needs c =
+    let context = c.args.context.now in
+    let groups = context.groups.now.items in
+    let need = c.args.need in
+    let x = c.index.result.now in
+    let at = info_there groups need.group x c.requires (slice_get_read groups _ need.group x refl c.requires c.index.ensures) in
+    let h = c.in_ok-emit_called.ensures in
+    met_ok context need x.now at c.args.emitter.now.opened.items c.args.emitter.now _ c.emit_called.new.emitter _ c.scope_of.result 0 c.scope_of.ensures refl refl
+    c.in_ok-emit_called.field-0 tt h
