@@ -42,6 +42,7 @@ int main(int count, char **words) {
     onig_initialize(encodings, 1);
     onig_set_retry_limit_in_match(ULONG_MAX);
     onig_set_retry_limit_in_search(ULONG_MAX);
+    onig_set_subexp_call_max_nest_level(INT_MAX);
     const UChar *pattern = (const UChar *)words[1];
     regex_t *regex;
     OnigErrorInfo info;

@@ -257,6 +257,40 @@ static int options(void) {
     return 0;
 }
 
+/* Groups that call themselves or each other, with so many calls that their bodies stand in the program once. */
+static int grammars(void) {
+    fancy_regex regex = FANCY_REGEX_EMPTY;
+    fancy_regex_options options = FANCY_REGEX_OPTIONS;
+    fancy_regex_span span, spans[2];
+    fancy_regex_member members[2];
+    const char *sum = "(?<e>\\d+|\\(\\g<e>[-+*/]\\g<e>\\))", *text = "((1+2)*(3-(4/5)))";
+    const char *both = "(a\\g<1>?\\g<1>?b)(?<e>\\d+|\\(\\g<e>[-+*/]\\g<e>\\))";
+    const size_t ends[] = {16, 46};
+    size_t count = 9;
+    WANT(strlen(sum) == 30 && strlen(both) == 46);
+    WANT(fancy_regex_build(&regex, sum, 30, NULL) == FANCY_REGEX_DONE);
+    WANT(fancy_regex_captures(&regex, text, 17, 0, spans, 2) == FANCY_REGEX_DONE && spans[0].end == 17 && spans[1].start == 0 && spans[1].end == 17);
+    WANT(fancy_regex_find(&regex, text, 17, 7, &span) == FANCY_REGEX_DONE && span.start == 7 && span.end == 16);
+    WANT(fancy_regex_find(&regex, text, 16, 0, &span) == FANCY_REGEX_DONE && span.start == 1 && span.end == 6);
+    options.backtrack_limit = 9;
+    WANT(fancy_regex_build(&regex, sum, 30, &options) == FANCY_REGEX_DONE && fancy_regex_is_match(&regex, text, 17, 0) == FANCY_REGEX_DONE);
+    options.backtrack_limit = 8;
+    WANT(fancy_regex_build(&regex, sum, 30, &options) == FANCY_REGEX_DONE && fancy_regex_is_match(&regex, text, 17, 0) == FANCY_REGEX_LIMIT);
+    options = (fancy_regex_options)FANCY_REGEX_OPTIONS;
+    options.leftmost_longest = true;
+    WANT(fancy_regex_build(&regex, sum, 30, &options) == FANCY_REGEX_DONE);
+    WANT(fancy_regex_find(&regex, text, 17, 0, &span) == FANCY_REGEX_DONE && span.end == 17);
+    options.has_max_prog_size = true;
+    options.max_prog_size = 1000;
+    WANT(fancy_regex_build(&regex, sum, 30, &options) == FANCY_REGEX_REFUSED);
+    WANT(walks("(a\\g<1>?\\g<1>?b)", "aabaabbab", "1..3 3..7 7..9 "));
+    WANT(fancy_regex_set_build(&regex, both, ends, 2, NULL) == FANCY_REGEX_DONE);
+    WANT(fancy_regex_set_find(&regex, "xaabb1", 6, 0, members, 2, &count) == FANCY_REGEX_DONE && count == 1);
+    WANT(members[0].pattern == 0 && members[0].start == 1 && members[0].end == 5);
+    fancy_regex_free(&regex);
+    return 0;
+}
+
 static int wrong_calls(void) {
     fancy_regex regex = FANCY_REGEX_EMPTY;
     fancy_regex_query begin = {0, false, true};
@@ -298,7 +332,7 @@ static int wrong_calls(void) {
 }
 
 int main(void) {
-    if (right_calls() != 0 || iteration() != 0 || rows() != 0 || lists() != 0 || sets() != 0 || set_groups() != 0 || mixed_sets() != 0 || questions() != 0 || options() != 0 || wrong_calls() != 0) return 1;
+    if (right_calls() != 0 || iteration() != 0 || rows() != 0 || lists() != 0 || sets() != 0 || set_groups() != 0 || mixed_sets() != 0 || questions() != 0 || options() != 0 || grammars() != 0 || wrong_calls() != 0) return 1;
     printf("calls: done\n");
     return 0;
 }

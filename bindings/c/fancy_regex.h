@@ -90,7 +90,7 @@ typedef struct fancy_regex_member {
 /* How a pattern is built. Begin with FANCY_REGEX_OPTIONS, and change what differs. */
 typedef struct fancy_regex_options {
     size_t backtrack_limit;      /* how often one search by a backtracking program may go back: 1,000,000 */
-    size_t max_prog_size;        /* the most instructions of a backtracking program, if has_max_prog_size */
+    size_t max_prog_size;        /* the most instructions of a backtracking program, if has_max_prog_size; calls count as what they write */
     bool has_max_prog_size;      /* whether max_prog_size is a cap: false */
     bool case_insensitive;       /* upper and lower case are the same, as after (?i) */
     bool multi_line;             /* ^ and $ match at each line, as after (?m) */

@@ -12,7 +12,7 @@ collection, append its cases to stdin as lines of the table, add their number to
 
 A row of worked.jsonl is a JSON object: `kind`, the call or calls that it asks (see row_calls), `pattern`, of a set a list, and
 `expected`, or `error` where the calls fail; and as it needs them `text`, `options`, `input`, `template`, `no_expand`, `limit`,
-`position`, `name`, `total` and `seek`.
+`position`, `name`, `total` and `seek`. A long text or layout may be a list of pieces, each with how often it stands there.
 
 A line of the table is a case: six columns or more, separated by tabs. In patterns, texts, templates and answers each byte that is a
 control character, a blank, a `%` or not ASCII is written as `%` and two hexadecimal digits.
@@ -44,7 +44,8 @@ The answer of a call that fails is the text of its error in brackets. Other answ
     sizes               least, greatest (`-` for unbounded), and whether all sizes are the same
     reprinted           alike, if a regex of the printed text, with the options that it keeps, has the answers of the regex on the text:
                         of searches from each position, anchored there and not, iterations, splits and replacements
-    layout              the instructions of the program, each in brackets; repeats: how many begin a greedy repeat, and how many fail
+    layout              the instructions of the program, each in brackets; repeats: how many begin a greedy repeat, and how many fail, where
+                        calls are written out
     set                 MEMBER:START..END or the text of an error, with a blank between, or none
 """
 import json
@@ -105,6 +106,11 @@ CAUSES = {
     "RepeatBoundsReversed": "repeat bounds reversed",
 }
 LIMITS = {"BacktrackLimitExceeded": "backtrack limit exceeded"}
+
+
+def joined(value):
+    """A text, or a list of its pieces, each with how often it stands there."""
+    return value if isinstance(value, str) else "".join(piece * times for piece, times in value)
 
 
 def quoted(text):
@@ -274,7 +280,7 @@ def start_bytes_answer(expected):
 
 
 def layout_answer(expected):
-    return "".join(bracketed(insn) for insn in expected.split())
+    return "".join(bracketed(insn) for insn in joined(expected).split())
 
 
 # The forms of the other answers, by the kinds of rows, which are the names of the calls too.
@@ -294,13 +300,13 @@ FORMS = {
 
 
 def row_line(row):
-    pattern = row["pattern"]
+    pattern, text = row["pattern"], joined(row.get("text", ""))
     patterns = " ".join(map(quoted, pattern)) or "-" if isinstance(pattern, list) else quoted(pattern or "")
     columns = [
         options_column(row.get("options", {}), row_seek(row)),
         patterns,
-        quoted(row.get("text", "")),
-        input_column(row.get("text", ""), row.get("input")),
+        quoted(text),
+        input_column(text, row.get("input")),
         quoted(row.get("template", row.get("no_expand", ""))),
     ]
     return "\t".join(columns + [f"{call}={answer}" for call, answer in row_questions(row)])

@@ -309,7 +309,8 @@ setters! {
     backtrack_limit(limit: usize) |to| to.options.backtrack_limit = limit;
 
     /// The most instructions that the program of a pattern may have; without a call there is no such cap. A pattern of a longer program is
-    /// `CompileError::PatternTooComplex`. Calls of groups are written out in place, so programs of short patterns can be large.
+    /// `CompileError::PatternTooComplex`. Under a cap calls of groups are written out in place,
+    /// so programs of short patterns can be large.
     ///
     /// ```
     /// use proved_fancy_regex::RegexBuilder;

@@ -10,6 +10,8 @@ mod allowances;
 #[cfg(test)]
 mod analysis;
 #[cfg(test)]
+mod calls;
+#[cfg(test)]
 mod class;
 #[cfg(test)]
 mod compiled;

@@ -22,6 +22,8 @@ pub enum Check {
     Machine,
     /// So do the states with parts, where the pattern has such states and may match the empty string.
     States,
+    /// A pattern's program with its calls written out, and the one in which calls stay calls, end alike under every limit.
+    Layouts,
     /// The linear engine has the same matches with its table and without, from several places on.
     Table,
     /// The ends of an iteration's matches increase, and its first match is that of `find`.
@@ -53,7 +55,7 @@ pub enum Check {
 }
 
 /// All checks of a pattern that is built.
-pub static CHECKS: [Check; 22] = [
+pub static CHECKS: [Check; 23] = [
     Check::Plain,
     Check::Whole,
     Check::Part,
@@ -61,6 +63,7 @@ pub static CHECKS: [Check; 22] = [
     Check::Groups,
     Check::Engine,
     Check::Machine,
+    Check::Layouts,
     Check::States,
     Check::Table,
     Check::Ends,

@@ -6,6 +6,7 @@ use crate::check::{CHECKS, Check};
 use crate::engines::{engine_agrees, machine_agrees};
 use crate::groups::groups_agree;
 use crate::iteration::{ends_increase, items_alike, next_is_found, pieces_are_the_text};
+use crate::layouts::layouts_alike;
 use crate::refused::refused_alike;
 use crate::replacing::{expansions_agree, fixed_between_pieces, template_is_expanded};
 use crate::searches::{begins_alike, keeps_its_bound, part_alike, whole_alike};
@@ -92,6 +93,7 @@ fn holds(alloc: Global, case: Case<'_>, regex: &Regex, check: Check) -> Result<b
         Check::Groups => groups_agree(alloc, case, regex),
         Check::Engine => engine_agrees(alloc, case, regex),
         Check::Machine => machine_agrees(alloc, case, regex),
+        Check::Layouts => layouts_alike(alloc, case),
         Check::States => states_agree(alloc, case, regex),
         Check::Table => tables_alike(alloc, case),
         Check::Ends => ends_increase(alloc, case, regex),

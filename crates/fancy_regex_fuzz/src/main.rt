@@ -14,6 +14,7 @@ mod engines;
 mod fault;
 mod groups;
 mod iteration;
+mod layouts;
 mod part;
 mod pattern;
 mod random;
@@ -94,7 +95,7 @@ fn runs_well(
     report: &mut Report,
 ) -> Result<bool, FuzzError> {
     let pattern = make_pattern(rt.alloc(), random, kind)?;
-    let text = make_text(rt.alloc(), random)?;
+    let text = make_text(rt.alloc(), random, kind)?;
     let template = make_template(rt.alloc(), random)?;
     let case = Case {
         pattern: &pattern,

@@ -1,4 +1,5 @@
-//! Random patterns: by a grammar of plain patterns, by a grammar of all constructs, and by mutations of these.
+//! Random patterns: by a grammar of plain patterns, by a grammar of all constructs, by mutations of these, and by a grammar of groups
+//! that call each other.
 
 use crate::random::Random;
 use std::alloc::{AllocError, Global};
@@ -12,15 +13,18 @@ pub enum Kind {
     Grammar,
     /// By that grammar, with a few characters changed.
     Mutated,
+    /// By the grammar of three groups that call each other and themselves.
+    Calls,
 }
 
 impl Kind {
     /// The kind of the case with this number.
     pub fn of(number: u64) -> Kind {
-        match number % 3 {
+        match number % 4 {
             0 => Kind::Plain,
             1 => Kind::Grammar,
-            _ => Kind::Mutated,
+            2 => Kind::Mutated,
+            _ => Kind::Calls,
         }
     }
 }
@@ -85,6 +89,59 @@ static ANY: [&str; 50] = [
     "(*FAIL)|%",
 ];
 
+/// How a pattern of groups that call each other begins. The groups have the numbers 1 to 3; where there are fewer, a call of a missing one
+/// is refused.
+static CALLING: [&str; 14] = [
+    "(a\\g<1>?b)%",
+    "(a\\g<1>?b|%)%\\g<1>",
+    "(a\\g<2>?b|c)(a\\g<1>?b|%)",
+    "(\\((?:%|\\g<1>)*\\))%",
+    "(a%)(%b)(c%)",
+    "(?(DEFINE)(%)(a%)(%b))%\\g<1>%",
+    "(?(DEFINE)(?<x>a%)(?<y>%b)(?<z>%))\\g<x>%\\g<y>",
+    "(?(DEFINE)(\\(%\\))(%a)(b%))(?:%\\g<1>)+",
+    "(?:(a%)|(b%)|(%))+",
+    "(a%(b%(%c)))\\g<3>",
+    "(a\\g<1>?%)(%)(b\\g<2>*%)",
+    "(?=(%a))(?<!(b))(?>(%))\\g<1>",
+    "(%)(?:(a)|(b)%)\\1(?(2)\\g<1>|%)",
+    "(a\\g<2>?%|b)(b\\g<3>?%|a)(\\g<1>%c)",
+];
+
+/// What a hole may become in such a pattern.
+static CALLED: [&str; 30] = [
+    "%%",
+    "%%",
+    "%|%",
+    "a%",
+    "b%|%",
+    "(?:%)?",
+    "(?:%)*",
+    "(?:%)+?",
+    "(?:%){1,2}",
+    "(?:%){0,2}+",
+    "(?>%)",
+    "(?=%)",
+    "(?!%)b",
+    "(?<=a)%",
+    "(?<!ab)%",
+    "(?~%)",
+    "\\K%",
+    "(%)",
+    "\\1%",
+    "(?(1)%|%)",
+    "(?(a%)%|%)",
+    "a\\g<1>?%",
+    "\\g<1>",
+    "(?:b\\g<2>)*",
+    "\\g<2>?%",
+    "a\\g<3>",
+    "%\\g<3>??",
+    "(?:a\\g<1>|\\g<2>)%",
+    "a\\g<0>?%",
+    "(?i:%\\g<1>?)",
+];
+
 /// What a hole becomes at the end.
 static ATOMS: [&str; 16] = [
     "a", "b", "ab", "c", ".", "[ab]", "[^a]", "\\w", "\\d", "\\s", "é", "k", "", "[b-d&&c]",
@@ -105,6 +162,9 @@ static SIGNS: [&str; 24] = [
 /// How often all holes are filled.
 const ROUNDS: usize = 4;
 
+/// How often they are where groups call each other.
+const CALL_ROUNDS: usize = 2;
+
 /// A pattern longer than this in bytes gets no new holes.
 const LONG: usize = 50;
 
@@ -122,6 +182,7 @@ fn rules_of(kind: Kind) -> &'static [&'static str] {
     match kind {
         Kind::Plain => &PLAIN,
         Kind::Grammar | Kind::Mutated => &ANY,
+        Kind::Calls => &CALLED,
     }
 }
 
@@ -129,14 +190,30 @@ fn rules_of(kind: Kind) -> &'static [&'static str] {
 fn atoms_of(kind: Kind) -> &'static [&'static str] {
     match kind {
         Kind::Plain => &PLAIN_ATOMS,
-        Kind::Grammar | Kind::Mutated => &ATOMS,
+        Kind::Grammar | Kind::Mutated | Kind::Calls => &ATOMS,
+    }
+}
+
+/// How a pattern of the kind begins.
+fn beginning_of(random: &mut Random, kind: Kind) -> &'static str {
+    match kind {
+        Kind::Calls => random.pick(&CALLING),
+        _ => "%",
+    }
+}
+
+/// How often all holes of a pattern of the kind are filled.
+fn rounds_of(kind: Kind) -> usize {
+    match kind {
+        Kind::Calls => CALL_ROUNDS,
+        _ => ROUNDS,
     }
 }
 
 /// A pattern by the grammar of the kind.
 fn grown(alloc: Global, random: &mut Random, kind: Kind) -> Result<String, AllocError> {
-    let mut pattern = String::from_str(alloc, "%")?;
-    for _ in 0..ROUNDS {
+    let mut pattern = String::from_str(alloc, beginning_of(random, kind))?;
+    for _ in 0..rounds_of(kind) {
         if pattern.len() < LONG {
             let grown = filled(alloc, random, &pattern, rules_of(kind))?;
             pattern = grown;

@@ -59,6 +59,7 @@ pub struct Report {
     plain: Counts,
     grammar: Counts,
     mutated: Counts,
+    calls: Counts,
 }
 
 impl Report {
@@ -68,6 +69,7 @@ impl Report {
             plain: Counts::new(),
             grammar: Counts::new(),
             mutated: Counts::new(),
+            calls: Counts::new(),
         }
     }
 
@@ -77,6 +79,7 @@ impl Report {
             Kind::Plain => self.plain = self.plain.with(ending),
             Kind::Grammar => self.grammar = self.grammar.with(ending),
             Kind::Mutated => self.mutated = self.mutated.with(ending),
+            Kind::Calls => self.calls = self.calls.with(ending),
         }
     }
 
@@ -84,7 +87,8 @@ impl Report {
     pub fn print(&self, rt: &HostRuntime) -> Result<(), FuzzError> {
         self.plain.print(rt, "plain")?;
         self.grammar.print(rt, "by grammar")?;
-        self.mutated.print(rt, "mutated")
+        self.mutated.print(rt, "mutated")?;
+        self.calls.print(rt, "with calls")
     }
 }
 

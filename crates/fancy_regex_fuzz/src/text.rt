@@ -1,5 +1,6 @@
 //! Random texts and templates.
 
+use crate::pattern::Kind;
 use crate::random::Random;
 use std::alloc::{AllocError, Global};
 
@@ -17,9 +18,48 @@ static TEMPLATE_PIECES: [&str; 16] = [
 /// The greatest number of pieces.
 const MOST: usize = 10;
 
-/// A text of a few pieces.
-pub fn make_text(alloc: Global, random: &mut Random) -> Result<String, AllocError> {
+/// What nested texts begin with, and what they end with.
+static NESTS: [(&str, &str); 4] = [("a", "b"), ("(", ")"), ("a", "bc"), ("ab", "")];
+
+/// How deep the shallowest of nested texts is. Calls of a group nest nineteen deep.
+const SHALLOWEST: usize = 17;
+
+/// How many calls of a group may be open.
+const MOST_OPEN: usize = 19;
+
+/// A text of a few pieces. Where groups call each other some texts are nested, about as deep as calls of one group or of two may be.
+pub fn make_text(alloc: Global, random: &mut Random, kind: Kind) -> Result<String, AllocError> {
+    let is_nested = matches!(kind, Kind::Calls) && random.one_in(3);
+    if is_nested {
+        return nested(alloc, random);
+    }
     of_pieces(alloc, random, &PIECES)
+}
+
+/// A piece so often, one of another kind, and what belongs to the first as often.
+fn nested(alloc: Global, random: &mut Random) -> Result<String, AllocError> {
+    let mut text = String::new(alloc);
+    let mut depth = SHALLOWEST.saturating_add(random.below(6));
+    if random.one_in(4) {
+        depth = depth.saturating_add(MOST_OPEN);
+    }
+    let Some((first, last)) = NESTS.get(random.below(NESTS.len())) else {
+        return Ok(text);
+    };
+    push_times(&mut text, first, depth)?;
+    if random.one_in(3) {
+        text.push_str(random.pick(&PIECES))?;
+    }
+    push_times(&mut text, last, depth)?;
+    Ok(text)
+}
+
+/// Appends a piece so often.
+fn push_times(text: &mut String, piece: &str, times: usize) -> Result<(), AllocError> {
+    for _ in 0..times {
+        text.push_str(piece)?;
+    }
+    Ok(())
 }
 
 /// A template of a few pieces.

@@ -8,7 +8,7 @@ use fancy_regex::Regex;
 const VALUE: &str = r"(?x)
     (?(DEFINE)
         (?<number> -? \d+ )
-        (?<value> \g<number> | \[ (?: \g<value> (?: , (?!\]) | (?=\]) ) )* \] )
+        (?<value> \g<number> | \[ (?: \g<value> (?: , \g<value> )* )? \] )
     )
     ^ \g<value> $
 ";

@@ -4,7 +4,7 @@ use crate::outcome::first_wrong;
 use crate::regex_row::{RegexCall, RegexRow};
 
 // One of each kind of construct.
-static FOUND: [RegexRow; 24] = [
+static FOUND: [RegexRow; 25] = [
     RegexRow("(a|b|ab)*bc", "ababac", RegexCall::Find(0, None)),
     RegexRow("(?>a|ab)c", "abc", RegexCall::Find(0, None)),
     RegexRow("(a|b|ab)*bc", "xababbc", RegexCall::Find(0, Some((1, 7)))),
@@ -45,6 +45,11 @@ static FOUND: [RegexRow; 24] = [
     RegexRow("\\R\\x41\\d", "\r\nA1", RegexCall::Find(0, Some((0, 4)))),
     RegexRow("a(*FAIL)|b", "ab", RegexCall::Find(0, Some((1, 2)))),
     RegexRow("a(?:\\g<0>)?b", "aabb", RegexCall::Find(0, Some((0, 4)))),
+    RegexRow(
+        "(a\\g<1>?\\g<1>?b)",
+        "xaabb",
+        RegexCall::Find(0, Some((1, 5))),
+    ),
 ];
 
 #[test]

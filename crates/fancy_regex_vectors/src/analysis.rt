@@ -41,7 +41,19 @@ fn append_analyzed(
         find_not_empty: case.row.letters.contains('e'),
     };
     let info = analyze(alloc, &tree, context)?;
-    append_of_info(alloc, out, case, call, &info)
+    let options = options_of(case, call, tree.contains_subroutines);
+    append_of_info(alloc, out, case, call, &info, &options)
+}
+
+/// The options of compilation. Where repeats are counted, calls are written out, however many instructions that makes.
+fn options_of(case: &Case<'_>, call: AnalysisCall, has_calls: bool) -> CompileOptions {
+    CompileOptions {
+        contains_subroutines: has_calls && !matches!(call, AnalysisCall::Repeats),
+        unicode: case.row.letters.contains('u'),
+        leftmost_longest: case.row.letters.contains('l'),
+        max_prog_size: case.cap,
+        ..CompileOptions::default()
+    }
 }
 
 /// Appends what is asked of an analysed pattern.
@@ -51,12 +63,13 @@ fn append_of_info(
     case: &Case<'_>,
     call: AnalysisCall,
     info: &Info<'_>,
+    options: &CompileOptions,
 ) -> Result<(), Error> {
     match call {
         AnalysisCall::Sizes => append_sizes(out, info)?,
         AnalysisCall::Weight => write!(out, "{}", info.weight.saturating_add(2))?,
         AnalysisCall::Easy => write!(out, "{}", !info.hard)?,
-        _ => append_compiled(alloc, out, case, call, info)?,
+        _ => append_compiled(alloc, out, case, call, info, options)?,
     }
     Ok(())
 }
@@ -68,14 +81,9 @@ fn append_compiled(
     case: &Case<'_>,
     call: AnalysisCall,
     info: &Info<'_>,
+    options: &CompileOptions,
 ) -> Result<(), Error> {
-    let options = CompileOptions {
-        unicode: case.row.letters.contains('u'),
-        leftmost_longest: case.row.letters.contains('l'),
-        max_prog_size: case.cap,
-        ..CompileOptions::default()
-    };
-    let prog = compile(alloc, info, &options)?;
+    let prog = compile(alloc, info, options)?;
     append_of_program(alloc, out, case, call, &prog)
 }
 

@@ -1,7 +1,7 @@
 //! Programs as text.
 
 use fancy_regex_compiled::Prog;
-use fancy_regex_program::Insn;
+use fancy_regex_program::{Callee, Insn};
 use std::alloc::AllocError;
 use std::fmt::Write;
 
@@ -31,8 +31,26 @@ fn append_insn(out: &mut String, insn: &Insn) -> Result<(), AllocError> {
         Insn::Fail => write!(out, "[Fail]"),
         Insn::BeginRepeat(slot) => write!(out, "[BeginRepeat({slot})]"),
         Insn::RepeatGr(head) => write!(out, "[RepeatGr({},{})]", head.next, head.repeat),
+        Insn::Call(callee) => append_callee(out, "Call", **callee),
+        Insn::Return(callee) => append_callee(out, "Return", **callee),
         _ => write!(out, "[?]"),
     }
+}
+
+/// Appends a call or a return: where the body is, its own slots and how many, its count, and its frames and how many.
+fn append_callee(out: &mut String, name: &str, callee: Callee) -> Result<(), AllocError> {
+    let Callee {
+        start,
+        count,
+        most,
+        frames,
+        first,
+        own,
+    } = callee;
+    write!(
+        out,
+        "[{name}({start},{first},{own},{count},{frames},{most})]"
+    )
 }
 
 /// Appends how many instructions begin a greedy repeat, and how many fail.
