@@ -29,7 +29,7 @@ const UNICODE: u32 = FLAG_UNICODE;
 
 const ONIGURUMA: u32 = FLAG_UNICODE | FLAG_MULTI | FLAG_ONIGURUMA_MODE;
 
-static SEARCHES: [Search; 79] = [
+static SEARCHES: [Search; 82] = [
     // a line break is `\r\n`, or one character
     Search("\\R", UNICODE, "\r\n", Answer::Match(0, 2)),
     Search("\\R\\n", UNICODE, "\r\n", Answer::Nothing),
@@ -130,6 +130,30 @@ static SEARCHES: [Search; 79] = [
     Search("(?(DEFINE)(a))\\g<1>", UNICODE, "a", Answer::NoStates),
     Search("(a)\\1", UNICODE, "aa", Answer::NoStates),
     Search("a\\Kb", UNICODE, "ab", Answer::NoStates),
+    Search("\\G\\Kb", UNICODE, "ab", Answer::NoStates),
+    // `\G` has no place
+    Search("\\Ga", UNICODE, "aa", Answer::Nothing),
+    Search("(?!\\G)a", UNICODE, "ba", Answer::Match(1, 2)),
+];
+
+/// A pattern with `\G`, a text, where `\G` holds, and the span of the first match.
+struct Continued(Text, Text, Option<usize>, Option<(usize, usize)>);
+
+static CONTINUED: [Continued; 14] = [
+    Continued("\\Ga", "baa", Some(1), Some((1, 2))),
+    Continued("\\Ga", "baa", Some(2), Some((2, 3))),
+    Continued("\\Ga", "baa", Some(0), None),
+    Continued("\\Ga", "aaa", None, None),
+    Continued("a*\\G", "aab", Some(2), Some((0, 2))),
+    Continued("(?:a|\\Gb)+", "babb", Some(2), Some((1, 3))),
+    Continued("(?!\\G)a", "aa", Some(0), Some((1, 2))),
+    Continued("(?!\\G)a", "aa", None, Some((0, 1))),
+    Continued("(?=.*\\G)a", "baba", Some(1), Some((1, 2))),
+    Continued("(?=.*\\G)a", "baba", Some(2), Some((1, 2))),
+    Continued("(?<=\\Gé)b", "ébéb", Some(3), Some((5, 6))),
+    Continued("(?>\\Ga|b)c", "acbc", Some(1), Some((2, 4))),
+    Continued("(?(\\G)a|b)", "ab", None, Some((1, 2))),
+    Continued("(?(\\G)a|b)", "aba", Some(2), Some((1, 2))),
 ];
 
 /// A pattern, a text, and the slots of the first match.
@@ -168,12 +192,103 @@ static GROUPS: [Groups; 15] = [
     Groups("(?!(b))a", "a", [0, 1, UNSET, UNSET, UNSET, UNSET], 4),
 ];
 
+/// A pattern, a text, and the offsets of the groups of the longest match, of which so many count; none where there is no match.
+struct Longest(Text, Text, [usize; 6], usize);
+
+static LONGEST: [Longest; 24] = [
+    Longest(
+        "a|ab(?=c)|abc",
+        "abcd",
+        [0, 3, UNSET, UNSET, UNSET, UNSET],
+        2,
+    ),
+    Longest("(?>a|ab)c?", "abc", [0, 1, UNSET, UNSET, UNSET, UNSET], 2),
+    Longest(
+        "(?>a|ab)c?|ab",
+        "abc",
+        [0, 2, UNSET, UNSET, UNSET, UNSET],
+        2,
+    ),
+    Longest(
+        "(?=a|ab)\\w*?",
+        "xab",
+        [1, 3, UNSET, UNSET, UNSET, UNSET],
+        2,
+    ),
+    // of the ways that end last the first one counts
+    Longest("(a)b|(ab)(?!x)", "ab", [0, 2, 0, 1, UNSET, UNSET], 6),
+    Longest("a(?!x)|(a)b|(ab)", "ab", [0, 2, 0, 1, UNSET, UNSET], 6),
+    Longest("(a|ab)(?=c|b)(b?)", "abc", [0, 2, 0, 1, 1, 2], 6),
+    Longest("(a??)(?=a)(a*)", "aaa", [0, 3, 0, 0, 0, 3], 6),
+    // lazy repeats go as far as they may
+    Longest(
+        "a(?!x).*?",
+        "abbbbbbbbb",
+        [0, 10, UNSET, UNSET, UNSET, UNSET],
+        2,
+    ),
+    Longest("(?=a)(a*?)(?!b)", "aaaaaab", [0, 5, 0, 5, UNSET, UNSET], 4),
+    Longest(
+        "(?:a|aa|b(?=b)){2,}?",
+        "xaabbbba",
+        [1, 6, UNSET, UNSET, UNSET, UNSET],
+        2,
+    ),
+    // the first start that has a way, though a later one has a longer
+    Longest(
+        "a(?!c)|b(?=c)\\w+",
+        "abcccc",
+        [0, 1, UNSET, UNSET, UNSET, UNSET],
+        2,
+    ),
+    // parts keep their first way
+    Longest("(?=(a|ab))a(?:b)?", "ab", [0, 2, 0, 1, UNSET, UNSET], 4),
+    Longest("(?=(a|ab)c)\\w+?", "abc", [0, 3, 0, 2, UNSET, UNSET], 4),
+    Longest("(?((?=(a|ab)))a|b)b?", "ab", [0, 2, 0, 1, UNSET, UNSET], 4),
+    Longest("(?>(a|ab))(c|bcd)?", "abcd", [0, 4, 0, 1, 1, 4], 6),
+    Longest("((?>a|ab))c|(a)b", "abc", [0, 2, UNSET, UNSET, 0, 1], 6),
+    // characters of several bytes
+    Longest("é(?!x)|é.", "éé", [0, 4, UNSET, UNSET, UNSET, UNSET], 2),
+    Longest("(?<=é)(.??)(.*?)", "ééaé", [2, 7, 2, 2, 2, 7], 6),
+    Longest(
+        "(?<=a|bc)x*?",
+        "aaxxxx",
+        [1, 1, UNSET, UNSET, UNSET, UNSET],
+        2,
+    ),
+    Longest(
+        "(?<=a|bc)x+?",
+        "aaxxxx",
+        [2, 6, UNSET, UNSET, UNSET, UNSET],
+        2,
+    ),
+    Longest(
+        "\\Ra??|\\R\\n?(?=a)",
+        "\r\na",
+        [0, 3, UNSET, UNSET, UNSET, UNSET],
+        2,
+    ),
+    Longest("(?=b)a", "ab", [0, 0, UNSET, UNSET, UNSET, UNSET], 0),
+    Longest("(a|b)*?(?!a|b)", "abab", [0, 4, 3, 4, UNSET, UNSET], 4),
+];
+
 /// The states of a pattern, if it has some. `None` for a pattern that is refused.
 fn compiled(alloc: Global, pattern: &str, flags: u32) -> Option<Option<Regular>> {
+    compiled_for(alloc, pattern, flags, false)
+}
+
+/// The same, for the first match or the longest.
+fn compiled_for(
+    alloc: Global,
+    pattern: &str,
+    flags: u32,
+    longest: bool,
+) -> Option<Option<Regular>> {
     let tree = Expr::parse_tree_with_flags(alloc, pattern, flags).ok()?;
     let info = analyze(alloc, &tree, AnalyzeContext::default()).ok()?;
     let options = CompileOptions {
         unicode: flags != ASCII,
+        leftmost_longest: longest,
         ..CompileOptions::default()
     };
     Regular::if_supported(alloc, &info, &options).ok()
@@ -210,6 +325,26 @@ fn answers(regular: &Regular, text: &str, memory: &mut RegularMemory, answer: An
     }
 }
 
+/// A search whose `\G` holds at this place.
+fn input_at(text: &str, continue_at: Option<usize>) -> RunInput {
+    RunInput {
+        continue_at,
+        ..whole(text)
+    }
+}
+
+/// Whether a search whose `\G` holds at this place has this answer.
+fn continues(regular: &Regular, row: &Continued, memory: &mut RegularMemory) -> bool {
+    let input = input_at(row.1, row.2);
+    if input.range.end > row.1.len() || !row.1.is_char_boundary(input.first) {
+        return false;
+    }
+    match regular.find_span_in(row.1, &input, &mut Steps::new(), memory) {
+        Ok(span) => span == row.3,
+        Err(_) => false,
+    }
+}
+
 /// Whether a pattern has states as wanted, which answer as wanted.
 fn holds(alloc: Global, row: &Search, memory: &mut RegularMemory) -> bool {
     match (compiled(alloc, row.0, row.1), row.3) {
@@ -234,6 +369,33 @@ fn has_groups(alloc: Global, row: &Groups, memory: &mut RegularMemory) -> bool {
     }
 }
 
+/// Whether the longest match of a pattern has these slots, and its search for the span alone finds the same.
+fn has_longest(alloc: Global, row: &Longest, memory: &mut RegularMemory) -> bool {
+    let Some(Some(regular)) = compiled_for(alloc, row.0, UNICODE, true) else {
+        return false;
+    };
+    let input = whole(row.1);
+    if input.range.end > row.1.len() || !row.1.is_char_boundary(input.first) {
+        return false;
+    }
+    let span = regular.find_span_in(row.1, &input, &mut Steps::new(), memory);
+    match (regular.search_in(alloc, row.1, &input, memory), span) {
+        (Ok(Some(slots)), Ok(Some(span))) => {
+            row.2.get(..row.3) == Some(slots.as_slice()) && span == (row.2[0], row.2[1])
+        }
+        (Ok(None), Ok(None)) => row.3 == 0,
+        _ => false,
+    }
+}
+
+#[test]
+fn longest_matches_are_found(rt: HostRuntime) {
+    let mut memory = RegularMemory::new(rt.alloc());
+    for (number, row) in LONGEST.iter().enumerate() {
+        assert!(rt; has_longest(rt.alloc(), row, &mut memory), "row {number}");
+    }
+}
+
 #[test]
 fn parts_write_their_groups(rt: HostRuntime) {
     let mut memory = RegularMemory::new(rt.alloc());
@@ -247,5 +409,24 @@ fn states_with_parts_answer_searches(rt: HostRuntime) {
     let mut memory = RegularMemory::new(rt.alloc());
     for (number, row) in SEARCHES.iter().enumerate() {
         assert!(rt; holds(rt.alloc(), row, &mut memory), "row {number}");
+    }
+}
+
+/// Whether a pattern has states that answer this search as wanted.
+fn continues_as_wanted(alloc: Global, row: &Continued, memory: &mut RegularMemory) -> bool {
+    match compiled(alloc, row.0, UNICODE) {
+        Some(Some(regular)) => continues(&regular, row, memory),
+        _ => false,
+    }
+}
+
+#[test]
+fn searches_continue_at_their_place(rt: HostRuntime) {
+    let mut memory = RegularMemory::new(rt.alloc());
+    for (number, row) in CONTINUED.iter().enumerate() {
+        assert!(rt;
+            continues_as_wanted(rt.alloc(), row, &mut memory),
+            "row {number}"
+        );
     }
 }

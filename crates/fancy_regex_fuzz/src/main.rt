@@ -9,6 +9,7 @@
 mod bytes;
 mod case;
 mod check;
+mod continuing;
 mod ending;
 mod engines;
 mod fault;

@@ -1,6 +1,7 @@
 //! The check of the states with parts.
 
 use crate::case::Case;
+use crate::continuing::{continue_alike, longest_alike};
 use crate::engines::{has_places, run_input};
 use crate::part::input_of;
 use fancy_regex::{Expr, Regex, Result};
@@ -9,23 +10,33 @@ use fancy_regex_info::{AnalyzeContext, CompileOptions};
 use fancy_regex_regular::{Regular, RegularMemory};
 use std::alloc::Global;
 
-/// Whether the states with parts find the regex's groups in the case's part, where the pattern has such states.
+/// Whether the states with parts find the regex's groups in the case's part, where the pattern has such states, and what the program
+/// finds, wherever `\G` holds, and for the longest match.
 pub fn states_agree(alloc: Global, case: Case<'_>, regex: &Regex) -> Result<bool> {
-    let found = states_of(alloc, case)?;
+    let longest = states_of(alloc, case, true)?;
+    if let Some(regular) = &longest {
+        if !longest_alike(alloc, case, regular)? {
+            return Ok(false);
+        }
+    }
+    let found = states_of(alloc, case, false)?;
     match &found {
-        Some(regular) => has_places_of(alloc, case, regex, regular),
+        Some(regular) => Ok(
+            has_places_of(alloc, case, regex, regular)? && continue_alike(alloc, case, regular)?,
+        ),
         None => Ok(true),
     }
 }
 
-/// The states of the case's pattern, if it has some and may match the empty string.
-fn states_of(alloc: Global, case: Case<'_>) -> Result<Option<Regular>> {
+/// The states of the case's pattern, for its first match or its longest, if it has some and may match the empty string.
+fn states_of(alloc: Global, case: Case<'_>, longest: bool) -> Result<Option<Regular>> {
     if case.setting.not_empty {
         return Ok(None);
     }
     let tree = Expr::parse_tree_with_flags(alloc, case.pattern, case.setting.flags())?;
     let options = CompileOptions {
         contains_subroutines: tree.contains_subroutines,
+        leftmost_longest: longest,
         ..case.setting.compile_options()
     };
     let info = analyze(alloc, &tree, AnalyzeContext::default())?;

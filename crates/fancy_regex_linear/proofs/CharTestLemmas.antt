@@ -27,7 +27,7 @@ use Rattle.fancy_regex_class.specs.RunInputs.{setting_for}
 use Rattle.fancy_regex_states.specs.declared.atom.Leaf.{Leaf}
 use Rattle.fancy_regex_states.specs.declared.atom.Leaf.TheVariants.{Any, Char, Folded, Class}
 use Rattle.fancy_regex_states.specs.declared.atom.Test.{Test}
-use Rattle.fancy_regex_states.specs.declared.atom.Test.TheVariants.{StartText, EndText, StartLine, EndLine, WordBoundary, NotWordBoundary, LeftWordBoundary, RightWordBoundary, LeftWordHalfBoundary, RightWordHalfBoundary, StartLineOniguruma, Never, LookAhead, LookAheadNeg, LookBehind, LookBehindNeg}
+use Rattle.fancy_regex_states.specs.declared.atom.Test.TheVariants.{StartText, EndText, StartLine, EndLine, WordBoundary, NotWordBoundary, LeftWordBoundary, RightWordBoundary, LeftWordHalfBoundary, RightWordHalfBoundary, StartLineOniguruma, Never, Continue, LookAhead, LookAheadNeg, LookBehind, LookBehindNeg}
 use Rattle.fancy_regex_class.specs.declared.input.RunInput.{RunInput}
 use Rattle.fancy_regex_meaning.proofs.NextBoundaryLemmas.{char_of}
 
@@ -192,7 +192,7 @@ module _ (text : List ℕ) (p : ℕ) (u : IsUtf8 text) (b : IsCharBoundary text 
         ∙ ap (λ x. is_none (char_before text p) || is_char 10 (char_before text p) || (crlf && x && not (is_before_byte text 10 p))) (after_is 13 (omega arith))
         ∙ ap (λ x. is_none (char_before text p) || is_char 10 (char_before text p) || (crlf && is_char 13 (char_before text p) && not x)) (before_is 10 (omega arith))
 
-    tests_same : (test : Test) → test_holds s cs test p ≡ passes ms (rules_for unicode longest input) test (char_before text p) (char_at text p)
+    tests_same : (test : Test) → test_holds s cs test p ≡ passes ms (rules_for unicode longest input) test p (char_before text p) (char_at text p)
     tests_same StartText = ap (λ x. x && not input.no_start_text) start_is
     tests_same EndText = ap (λ x. x && not input.no_end_text) end_is
     tests_same (StartLine crlf) = line_same crlf
@@ -210,6 +210,7 @@ module _ (text : List ℕ) (p : ℕ) (u : IsUtf8 text) (b : IsCharBoundary text 
     tests_same RightWordHalfBoundary = refl
     tests_same (StartLineOniguruma crlf) = ap₂ (λ x y. x && not y) (line_same crlf) (ap₂ ◌&&◌ end_is (after_is 10 (omega arith)))
     tests_same Never = refl
+    tests_same Continue = refl
     tests_same (LookAhead leaf) = after_same leaf
     tests_same (LookAheadNeg leaf) = ap not (after_same leaf)
     tests_same (LookBehind leaf) = before_same leaf

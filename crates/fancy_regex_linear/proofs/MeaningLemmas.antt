@@ -147,7 +147,7 @@ group_same view len n f a lacks same w p =
     ∙ ap (map close) (sym (ways_carry view len n w.position a lacks (spot_of w)))
 
 -- a test
-stay_same : (b : Bool) (w : MatchState) → map spot_of (if b then w ∷ [] else []) ≡ (if b then spot_of w ∷ [] else [])
+pub stay_same : (b : Bool) (w : MatchState) → map spot_of (if b then w ∷ [] else []) ≡ (if b then spot_of w ∷ [] else [])
 stay_same true w = refl
 stay_same false w = refl
 

@@ -7,7 +7,7 @@ use Rattle.fancy_regex_tree.specs.declared.expr.Absent.TheFolds.{fold-roll-Expr,
 use Rattle.fancy_regex_tree.specs.declared.expr.AstNode.{AstNode}
 use Rattle.fancy_regex_tree.specs.declared.expr.Expr.{Expr}
 use Rattle.fancy_regex_tree.specs.declared.expr.Expr.TheVariants as view
-use Rattle.fancy_regex_tree.specs.Tree.{Tree, Trees, absent_tree, ast_tree, node_tree, tree_of, absent_tree_of, ast_tree_of, empty, any, assertion, general_newline, literal, concat, alt, group, look_around, repeat, delegate, atomic_group, conditional, verb, define_group, no_trees, more_trees}
+use Rattle.fancy_regex_tree.specs.Tree.{Tree, Trees, absent_tree, ast_tree, node_tree, tree_of, absent_tree_of, ast_tree_of, empty, any, assertion, general_newline, literal, concat, alt, group, look_around, repeat, delegate, atomic_group, conditional, verb, continue, define_group, no_trees, more_trees}
 use Rattle.fancy_regex_meaning.specs.Sizes.{Size, size_with, concat_size, alternation_size, size_through, size, both_sizes, either_size, repeated_size}
 use Rattle.fancy_regex_linear.specs.Plain.{IsRegular, AreRegular}
 
@@ -76,6 +76,7 @@ module _ (f g : ℕ → Size) where
     same_size (conditional c a b) p = ap₂ either_size (ap₂ both_sizes (same_size c p.0) (same_size a p.1.0)) (same_size b p.1.1)
     same_size (define_group t) p = refl
     same_size (verb v) p = refl
+    same_size continue p = refl
     same_size (repeat t lo hi greedy) p = ap (λ s. repeated_size s lo hi) (same_size t p)
     same_size _ p = absurd p
 

@@ -1,7 +1,7 @@
 -- What the pattern of a tree is: sound, numbered from its first group on and, of a plain tree, no heavier than it.
 use Rattle.std.proofs.Common.{◌≡◌, ◌≢◌, ℕ, zero, suc, ◌+◌, ◌*◌, ◌-◌, ◌<◌, ◌≤◌, ◌==◌, min, max, Bool, true, false, cond, not, ◌&&◌, ◌||◌, if◌then◌else◌, List, [], ◌∷◌, length, Option, Some, None, nat_lt, refl, sym, ap, ap₂, ◌∙◌, arith, eq-eqb, ne_eqb, lt-ltb, true≢false}
 use Rattle.std.proofs.Math.Nat.{mul-le-mul_left}
-use Rattle.fancy_regex_tree.specs.Tree.{Tree, Trees, empty, any, assertion, general_newline, literal, concat, alt, group, look_around, repeat, delegate, atomic_group, conditional, verb, define_group, no_trees, more_trees}
+use Rattle.fancy_regex_tree.specs.Tree.{Tree, Trees, empty, any, assertion, general_newline, literal, concat, alt, group, look_around, repeat, delegate, atomic_group, conditional, verb, continue, define_group, no_trees, more_trees}
 use Rattle.fancy_regex_tree.specs.declared.expr.Assertion.{Assertion}
 use Rattle.fancy_regex_tree.specs.declared.expr.LookAround.{LookAround}
 use Rattle.fancy_regex_tree.specs.declared.expr.LookAround.TheVariants as L
@@ -236,6 +236,7 @@ module _ (unicode : Bool) (groups : List Tree) where
     lacks m n k (atomic_group t) h = lacks m n k t h
     lacks m n k (conditional c a b) h = (lacks m n k c h, (lacks m _ _ a (omega arith), lacks m _ _ b (omega arith)))
     lacks m n k (verb v) h = tt
+    lacks m n k continue h = tt
     lacks m n k (group t) h = (λ e. omega arith, lacks m (n + 1) k t (omega arith))
     lacks m n k (repeat t lo hi greedy) h = out_lacks m (has_no_iteration lo hi) _ (lacks m n k t h)
     lacks m n k _ h = tt
@@ -330,6 +331,7 @@ module _ (unicode : Bool) (groups : List Tree) (call : ℕ → Size) where
         ∙ not_and _ _
     empties n k (define_group t) p = refl
     empties n k (verb v) p = refl
+    empties n k continue p = refl
     empties n k (repeat t lo hi greedy) p =
         product_zero lo (size_with call t).least ∙ ap₂ ◌||◌ (zero_test lo) (empties n k t p) ∙ not_and (nat_lt 0 lo) _ ∙ sym (ap not (out_moves lo hi greedy _ _))
     empties n k _ p = absurd p
@@ -389,6 +391,7 @@ module _ (unicode : Bool) (groups : List Tree) where
     regular_sound n k (conditional c a b) p = (regular_sound n k c p.0, (regular_sound _ _ a p.1.0, regular_sound _ _ b p.1.1))
     regular_sound n k (define_group t) p = tt
     regular_sound n k (verb v) p = tt
+    regular_sound n k continue p = tt
     regular_sound n k (repeat t lo hi greedy) p = out_sound (has_no_iteration lo hi) _ (never n k t p, regular_sound n k t p)
     regular_sound n k _ p = absurd p
 

@@ -14,7 +14,7 @@ use Rattle.fancy_regex_states.specs.Before.{may_pass, CannotBeginAfter, OnlyLead
 use Rattle.fancy_regex_states.specs.Before as B
 use Rattle.fancy_regex_states.specs.First.{state_at, MayHold, Leads, Reaches, here, onward, CannotRead, CannotBegin, CannotGoOn, CannotFollow, IsTableOf, RefusesSecond}
 use Rattle.fancy_regex_states.specs.declared.atom.Test.{Test}
-use Rattle.fancy_regex_states.specs.declared.atom.Test.TheVariants.{StartText, EndText, StartLine, EndLine, WordBoundary, NotWordBoundary, LeftWordBoundary, RightWordBoundary, LeftWordHalfBoundary, RightWordHalfBoundary, StartLineOniguruma, Never, LookAhead, LookAheadNeg, LookBehind, LookBehindNeg}
+use Rattle.fancy_regex_states.specs.declared.atom.Test.TheVariants.{StartText, EndText, StartLine, EndLine, WordBoundary, NotWordBoundary, LeftWordBoundary, RightWordBoundary, LeftWordHalfBoundary, RightWordHalfBoundary, StartLineOniguruma, Never, Continue, LookAhead, LookAheadNeg, LookBehind, LookBehindNeg}
 use Rattle.fancy_regex_states.specs.declared.first.FirstChars.{FirstChars}
 use Rattle.fancy_regex_states.specs.declared.rules.Rules.{Rules}
 use Rattle.fancy_regex_states.specs.declared.state.State.{State}
@@ -180,7 +180,7 @@ module _ (view : View) (stop : ℕ) (states : List State) (go : ℕ → Continua
   May check = may_pass rules.unicode matchers check c ≡ true
 
   -- an assertion that does not pass after the character does not hold
-  never_holds : (check : Test) → may_pass rules.unicode matchers check c ≡ false → passes matchers rules check (Some c) after ≡ false
+  never_holds : (check : Test) → may_pass rules.unicode matchers check c ≡ false → passes matchers rules check at (Some c) after ≡ false
   never_holds StartText never = refl
   never_holds (StartLine crlf) never = line_fails (c == 10) (crlf && c == 13) crlf (c == 13) (not (is_char 10 after)) never refl
   never_holds (LookBehind leaf) never = never
@@ -196,6 +196,7 @@ module _ (view : View) (stop : ℕ) (states : List State) (go : ℕ → Continua
   never_holds RightWordHalfBoundary never = absurd (true≢false never)
   never_holds (StartLineOniguruma crlf) never = absurd (true≢false never)
   never_holds Never never = absurd (true≢false never)
+  never_holds Continue never = absurd (true≢false never)
   never_holds (LookAheadNeg leaf) never = absurd (true≢false never)
 
   may_or_not : (check : Test) → (view.holds check at ≡ false) ⊎ May check

@@ -8,7 +8,7 @@ use Rattle.std.proofs.lemmas.Bool.{and_parts, cases_lt}
 use Rattle.std.proofs.lemmas.List.{map-append}
 use Rattle.std.proofs.lemmas.List.Folds.{find-append}
 use Rattle.std.proofs.lemmas.Option.{none-some, same_Some}
-use Rattle.fancy_regex_tree.specs.Tree.{Tree, Trees, Text, empty, any, assertion, general_newline, literal, concat, alt, group, look_around, repeat, delegate, atomic_group, conditional, verb, define_group, no_trees, more_trees}
+use Rattle.fancy_regex_tree.specs.Tree.{Tree, Trees, Text, empty, any, assertion, general_newline, literal, concat, alt, group, look_around, repeat, delegate, atomic_group, conditional, verb, continue, define_group, no_trees, more_trees}
 use Rattle.fancy_regex_tree.specs.declared.expr.Assertion.{Assertion}
 use Rattle.fancy_regex_tree.specs.declared.expr.Assertion.TheVariants.{EndTextIgnoreTrailingNewlines}
 use Rattle.fancy_regex_tree.specs.declared.expr.LookAround.{LookAround}
@@ -33,7 +33,7 @@ use Rattle.fancy_regex_linear.specs.Meaning.{Spot, each, in_order, after_iterati
 use Rattle.fancy_regex_linear.specs.Meaning as plain
 use Rattle.fancy_regex_linear.proofs.BoundLemmas.{AllOf, Between, Ends, ways_end}
 use Rattle.fancy_regex_linear.proofs.EndLemmas.{ends, GoesByPlace, after_alike, loop_alike, times_alike, upto_alike, tail_alike, ways_alike}
-use Rattle.fancy_regex_linear.proofs.MeaningLemmas.{spot_of, Same, no_iterations, flat_set, map_map, char_same, StandAt, stand_left, stand_right, all_stand, assertion_same, literal_same, class_same, look_same}
+use Rattle.fancy_regex_linear.proofs.MeaningLemmas.{spot_of, Same, stay_same, no_iterations, flat_set, map_map, char_same, StandAt, stand_left, stand_right, all_stand, assertion_same, literal_same, class_same, look_same}
 use Rattle.fancy_regex_linear.proofs.NewlineLemmas.{newline_same}
 use Rattle.fancy_regex_linear.proofs.TextEndLemmas.{text_end_same}
 use Rattle.fancy_regex_linear.proofs.CarryLemmas.{Lacks, put, map_twice, ways_carry}
@@ -442,6 +442,7 @@ module _ (s : Setting) (groups : List Tree) (unicode : Bool) (call : ℕ → Mov
   node_steps n (conditional c a b) p = λ w. refl
   node_steps n (define_group t) p = λ w. refl
   node_steps n (verb v) p = λ w. refl
+  node_steps n continue p = λ w. refl
   node_steps n (repeat t lo hi greedy) p = λ w. refl
   node_steps n _ p = absurd p
 
@@ -520,6 +521,7 @@ module _ (s : Setting) (groups : List Tree) (unicode : Bool) (call : ℕ → Mov
         (stand_right s groups unicode call cs false same_fold (k + length (classes c)) (classes a) (classes b) after)) w q
     tree_firsts n k (define_group t) p h w q = λ wanted. refl
     tree_firsts n k (verb v) p h w q = λ wanted. refl
+    tree_firsts n k continue p h w q = λ wanted. ap (first_at wanted) (stay_same _ w)
     tree_firsts n k _ p h w q = absurd p
 
     row_firsts : (n k : ℕ) (ts : Trees) → AreRegular ts → StandAt s groups unicode call cs false same_fold k (row_classes ts)

@@ -3,7 +3,7 @@ use Rattle.std.proofs.Common.{◌≡◌, ℕ, zero, suc, ◌+◌, ◌-◌, ◌==
 use Rattle.std.specs.List.{flat_map}
 use Rattle.std.specs.Char.{len_utf8}
 use Rattle.regex_hir.specs.Text.{char_at}
-use Rattle.fancy_regex_tree.specs.Tree.{Tree, Trees, empty, any, assertion, general_newline, literal, concat, alt, group, look_around, repeat, delegate, atomic_group, conditional, verb, define_group, no_trees, more_trees}
+use Rattle.fancy_regex_tree.specs.Tree.{Tree, Trees, empty, any, assertion, general_newline, literal, concat, alt, group, look_around, repeat, delegate, atomic_group, conditional, verb, continue, define_group, no_trees, more_trees}
 use Rattle.fancy_regex_tree.specs.declared.expr.LookAround.{LookAround}
 use Rattle.fancy_regex_tree.specs.declared.expr.LookAround.TheVariants.{LookAhead, LookAheadNeg, LookBehind, LookBehindNeg}
 use Rattle.fancy_regex_meaning.specs.Groups.{group_count}
@@ -107,6 +107,7 @@ module _ (s : Setting) (groups : List Tree) (call : ℕ → Moves) where
         (regular_keeps_start (n + group_count c) a p.1.0) (regular_keeps_start (n + group_count c + group_count a) b p.1.1)
     regular_keeps_start n (define_group t) p w = (refl, tt)
     regular_keeps_start n (verb v) p w = tt
+    regular_keeps_start n continue p w = if_keeps _ w w refl
     regular_keeps_start n _ p w = absurd p
 
     row_keeps : (n : ℕ) (ts : Trees) → AreRegular ts → KeepsStart (all_of (meanings s groups call n ts))

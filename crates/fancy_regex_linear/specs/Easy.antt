@@ -41,6 +41,7 @@ rules_for unicode longest input = record {
   no_start_text = input.no_start_text;
   no_end_text = input.no_end_text;
   longest = longest;
+  continue_at = input.continue_at;
 }
 
 -- the byte offsets of the groups of a match

@@ -1,6 +1,6 @@
 -- Plain trees, and the patterns of two branches at most that they become.
 use Rattle.std.specs.Prelude.{◌≢◌, ℕ, ◌+◌, Bool, true, false, not, ◌&&◌, List, [], ◌∷◌, ◌++◌, map, length, Option, Some, None, slice_index, if◌then◌else◌, ◌==◌}
-use Rattle.fancy_regex_tree.specs.Tree.{Tree, Trees, Text, empty, any, assertion, general_newline, literal, concat, alt, group, look_around, repeat, delegate, atomic_group, conditional, verb, define_group, no_trees, more_trees}
+use Rattle.fancy_regex_tree.specs.Tree.{Tree, Trees, Text, empty, any, assertion, general_newline, literal, concat, alt, group, look_around, repeat, delegate, atomic_group, conditional, verb, continue, define_group, no_trees, more_trees}
 use Rattle.fancy_regex_tree.specs.declared.expr.Assertion.{Assertion}
 use Rattle.fancy_regex_tree.specs.declared.expr.Assertion.TheVariants as A
 use Rattle.fancy_regex_tree.specs.declared.expr.BacktrackingControlVerb.{BacktrackingControlVerb}
@@ -15,7 +15,7 @@ use Rattle.fancy_regex_linear.specs.Re.{Re}
 use Rattle.fancy_regex_states.specs.declared.atom.Leaf.{Leaf}
 use Rattle.fancy_regex_states.specs.declared.atom.Leaf.TheVariants.{Any, Char, Folded, Class}
 use Rattle.fancy_regex_states.specs.declared.atom.Test.{Test}
-use Rattle.fancy_regex_states.specs.declared.atom.Test.TheVariants.{StartText, EndText, StartLine, EndLine, WordBoundary, NotWordBoundary, LeftWordBoundary, RightWordBoundary, LeftWordHalfBoundary, RightWordHalfBoundary, StartLineOniguruma, Never, LookAhead, LookAheadNeg, LookBehind, LookBehindNeg}
+use Rattle.fancy_regex_states.specs.declared.atom.Test.TheVariants.{StartText, EndText, StartLine, EndLine, WordBoundary, NotWordBoundary, LeftWordBoundary, RightWordBoundary, LeftWordHalfBoundary, RightWordHalfBoundary, StartLineOniguruma, Never, Continue, LookAhead, LookAheadNeg, LookBehind, LookBehindNeg}
 
 -- the test of an assertion that the linear engine supports
 abbrev pub test_of : Assertion → Option Test
@@ -72,7 +72,7 @@ abbrev pub IsFail : BacktrackingControlVerb → Type 0
 IsFail Fail = Unit {0}
 IsFail _ = ⊥
 
--- Trees that become a pattern with parts: plain ones, `\R`, `\Z`, those that never match, definitions of groups, which match the
+-- Trees that become a pattern with parts: plain ones, `\R`, `\Z`, `\G`, those that never match, definitions of groups, which match the
 -- empty string, and look-arounds, atomic groups and conditionals over any such trees.
 abbrev mutual
   pub IsRegular : Tree → Type 0
@@ -90,6 +90,7 @@ abbrev mutual
   IsRegular (conditional c a b) = IsRegular c × (IsRegular a × IsRegular b)
   IsRegular (define_group t) = Unit {0}
   IsRegular (verb v) = IsFail v
+  IsRegular continue = Unit {0}
   IsRegular (repeat t lo hi greedy) = IsRegular t
   IsRegular _ = ⊥
 
@@ -217,6 +218,7 @@ module _ (unicode : Bool) (groups : List Tree) where
         re.conditional (re_of n k c) (re_of (n + group_count c) (k + length (classes c)) a)
         (re_of (n + group_count c + group_count a) (k + length (classes c) + length (classes a)) b)
     re_of n k (verb v) = re.test Never
+    re_of n k continue = re.test Continue
     re_of n k (repeat t lo hi greedy) =
         unless (has_no_iteration lo hi) (re.repeat lo hi greedy (not (may_be_empty groups t)) (re_of n k t))
     re_of n k _ = re.nothing

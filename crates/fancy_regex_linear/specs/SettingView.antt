@@ -10,7 +10,7 @@ use Rattle.fancy_regex_states.specs.Attempts.{View}
 use Rattle.fancy_regex_states.specs.declared.atom.Leaf.{Leaf}
 use Rattle.fancy_regex_states.specs.declared.atom.Leaf.TheVariants.{Any, Char, Folded, Class}
 use Rattle.fancy_regex_states.specs.declared.atom.Test.{Test}
-use Rattle.fancy_regex_states.specs.declared.atom.Test.TheVariants.{StartText, EndText, StartLine, EndLine, WordBoundary, NotWordBoundary, LeftWordBoundary, RightWordBoundary, LeftWordHalfBoundary, RightWordHalfBoundary, StartLineOniguruma, Never, LookAhead, LookAheadNeg, LookBehind, LookBehindNeg}
+use Rattle.fancy_regex_states.specs.declared.atom.Test.TheVariants.{StartText, EndText, StartLine, EndLine, WordBoundary, NotWordBoundary, LeftWordBoundary, RightWordBoundary, LeftWordHalfBoundary, RightWordHalfBoundary, StartLineOniguruma, Never, Continue, LookAhead, LookAheadNeg, LookBehind, LookBehindNeg}
 
 -- whether the leaf matches the character, where the classes are these
 abbrev pub leaf_matches : Setting → List (Text × Bool) → Leaf → ℕ → Bool
@@ -33,6 +33,7 @@ test_holds s cs LeftWordHalfBoundary p = holds s A.LeftWordHalfBoundary p
 test_holds s cs RightWordHalfBoundary p = holds s A.RightWordHalfBoundary p
 test_holds s cs (StartLineOniguruma crlf) p = holds s (A.StartLineOniguruma crlf) p
 test_holds s cs Never p = false
+test_holds s cs Continue p = is_some_and s.continue_at (λ g. g == p)
 test_holds s cs (LookAhead leaf) p = is_some_and (char_at s.text p) (leaf_matches s cs leaf)
 test_holds s cs (LookAheadNeg leaf) p = not (is_some_and (char_at s.text p) (leaf_matches s cs leaf))
 test_holds s cs (LookBehind leaf) p = is_some_and (char_before s.text p) (leaf_matches s cs leaf)

@@ -55,6 +55,9 @@ fn pass_over(
     if at == 0 {
         return Some((at, text.look(at).1));
     }
+    if it.passing.starts.are_common() {
+        return Some((at, text.look(at).1));
+    }
     if refuses_all(context) {
         refuse_rest(context, text, at);
         return None;

@@ -378,6 +378,9 @@ impl Translator {
                 Ok(Translated::still(Node::Empty))
             }
             Expr::BacktrackingControlVerb(_) => Ok(Translated::still(Node::Look(Test::Never))),
+            Expr::ContinueFromPreviousMatchEnd => {
+                Ok(Translated::still(Node::Look(Test::Continue)))
+            }
             _ => Ok(Translated::still(Node::Empty)),
         }
     }
@@ -774,7 +777,8 @@ pub fn is_regular(expr: &Expr) -> bool
 {
     match expr {
         Expr::Empty | Expr::Any { .. } | Expr::Literal { .. } | Expr::Delegate { .. } => true,
-        Expr::Assertion(_) | Expr::GeneralNewline { .. } => true,
+        Expr::Assertion(_) | Expr::GeneralNewline { .. } | Expr::ContinueFromPreviousMatchEnd =>
+            true,
         Expr::Concat(children) => are_regular(children),
         Expr::Alt(children) => !children.is_empty() && are_regular(children),
         Expr::BacktrackingControlVerb(BacktrackingControlVerb::Fail) => true,

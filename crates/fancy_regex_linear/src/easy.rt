@@ -27,7 +27,7 @@ use crate::verdict::{Verdict, table_verdict};
 use fancy_regex_class::{CharClassMatcher, Counted, RunInput, Steps};
 use fancy_regex_info::{BytesMode, CompileError, CompileOptions, Info};
 use fancy_regex_states::{FirstChars, Rules, State, refused_after};
-use fancy_regex_table::Table;
+use fancy_regex_table::{Starts, Table};
 use std::alloc::{AllocError, Global};
 
 /// The greatest weight of a whole pattern.
@@ -228,7 +228,7 @@ impl Easy {
             entry,
             &translator.matchers,
             options,
-            has_table,
+            wanted_table(has_table, before.is_some(), &passing),
         )?;
         Ok(Easy {
             states,
@@ -517,6 +517,7 @@ impl Easy {
             no_start_text: input.no_start_text,
             no_end_text: input.no_end_text,
             longest: self.longest,
+            continue_at: input.continue_at,
         }
     }
 
@@ -581,6 +582,17 @@ fn passing_of(
     }
 }
 
+/// How common starts are for a table, if one is wanted: those that are passed over by the characters before them are not.
+fn wanted_table(is_wanted: bool, has_before: bool, passing: &Passing) -> Option<Starts> {
+    if !is_wanted {
+        return None;
+    }
+    if has_before {
+        return Some(Starts::Rare);
+    }
+    Some(passing.starts)
+}
+
 /// The table of the states, if it is wanted and the first match is. The error is want of memory.
 fn table_of(
     alloc: Global,
@@ -588,7 +600,7 @@ fn table_of(
     entry: usize,
     matchers: &[CharClassMatcher],
     options: &CompileOptions,
-    is_wanted: bool,
+    wanted: Option<Starts>,
 ) -> Result<Option<Table>, AllocError>
     ensures { IfOk result (λ table. IfSome table (IsTable (record {
       states = states.now;
@@ -597,10 +609,13 @@ fn table_of(
       unicode = options.now.unicode;
     }))) }
 {
-    if options.leftmost_longest || !is_wanted {
+    let Some(starts) = wanted else {
+        return Ok(None);
+    };
+    if options.leftmost_longest {
         return Ok(None);
     }
-    let table = Table::new(alloc, states, entry, matchers, options.unicode)?;
+    let table = Table::new(alloc, states, entry, matchers, options.unicode, starts)?;
     Ok(table)
 }
 

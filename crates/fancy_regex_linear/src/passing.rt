@@ -6,6 +6,10 @@ ghost use Rattle.fancy_regex_linear.specs.Passing.{HasMarksOf, IsPassedUntil, Ar
 ghost use Rattle.fancy_regex_stops.specs.Stops.{Covers, IsBeforeMarked, IsMarked, IsPairAt};
 
 use fancy_regex_stops::Stops;
+use fancy_regex_table::Starts;
+
+/// Starts are rare up to so many of a million characters.
+const MOST_RARE: u32 = 50_000;
 
 /// How many bytes are tested together.
 pub const TOGETHER: usize = 16;
@@ -36,6 +40,8 @@ pub struct Passing {
     /// The ranges of the others, if they are few.
     pub first_stops: Option<Stops>,
     pub second_stops: Option<Stops>,
+    /// How common the starts are that are left.
+    pub starts: Starts,
     ghost first_covered: { ForSome first_stops (λ stops. Covers stops first wide) },
     ghost second_covered: { ForSome second_stops (λ stops. Covers stops second false) },
 }
@@ -61,6 +67,7 @@ impl Passing {
             by,
             first_stops: Stops::of(first, wide),
             second_stops: Stops::of(&second, false),
+            starts: starts_of(first, &second),
         }
     }
 
@@ -230,6 +237,16 @@ impl Passing {
         }
         self.wide
     }
+}
+
+/// How common starts are at which an ASCII character stands that is not marked as a first one, before one that is not marked as a second
+/// one, by a fixed measure.
+fn starts_of(first: &[bool; 128], second: &[bool; 128]) -> Starts {
+    let both = commonness(first).saturating_mul(commonness(second));
+    if both > MOST_RARE {
+        return Starts::Common;
+    }
+    Starts::Rare
 }
 
 /// How often a character of a text is one of those that are not marked, by a fixed measure.

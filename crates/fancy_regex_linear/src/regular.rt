@@ -37,8 +37,8 @@ impl RegularStates {
     ghost use Rattle.fancy_regex_info.specs.declared.info.Info.{out-Info};
     ghost use Rattle.fancy_regex_info.specs.Views.{pattern_in};
 
-    /// Whether an analyzed pattern becomes such states: its weight is at most 4,000, and it has no more than characters, `\R`, `(*FAIL)`,
-    /// assertions, definitions, and look-arounds, groups, atomic groups, conditionals, alternations and repeats of these.
+    /// Whether an analyzed pattern becomes such states: its weight is at most 4,000, and it has no more than characters, `\R`, `\G`,
+    /// `(*FAIL)`, assertions, definitions, and look-arounds, groups, atomic groups, conditionals, alternations and repeats of these.
     pub fn are_made_for(info: &Info<'_>) -> bool
         ensures regular { result ≡ true → IsRegular (tree_of (out-Info info.now).expr.now) }
         ensures exact { (explicit : Bool) (t : Tree) → info_of info.now ≡ analysis explicit t

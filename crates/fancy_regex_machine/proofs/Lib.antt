@@ -4,6 +4,7 @@ pub mod AdvanceLemmas
 pub mod AnswerLemmas
 pub mod LimitLemmas
 mod AlternativeLoopLemmas
+mod CountedLoopLemmas
 mod SpanThreads
 mod SpanMoves
 mod SpanRuns

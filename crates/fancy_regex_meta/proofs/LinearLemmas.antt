@@ -4,7 +4,7 @@ use mathlib.Core.Logic.{∥∥₁_elim}
 use Rattle.std.proofs.Common.{◌≡◌, ◌⊎◌, ◌↔◌, ◌∙◌, ⊎_elim, inl, inr, Bool, true, false, true≢false, List, ℕ, refl, sym, ap, subst}
 use Rattle.std.proofs.Math.Bool.{Bool-set}
 use Rattle.std.proofs.Math.Bridge.{le_prop}
-use Rattle.fancy_regex_tree.specs.Tree.{Tree, Trees, tree_of, empty, any, assertion, general_newline, literal, concat, alt, group, look_around, repeat, delegate, atomic_group, conditional, verb, define_group, no_trees, more_trees}
+use Rattle.fancy_regex_tree.specs.Tree.{Tree, Trees, tree_of, empty, any, assertion, general_newline, literal, concat, alt, group, look_around, repeat, delegate, atomic_group, conditional, verb, continue, define_group, no_trees, more_trees}
 use Rattle.fancy_regex_tree.specs.declared.expr.BacktrackingControlVerb.{BacktrackingControlVerb}
 use Rattle.fancy_regex_tree.specs.declared.expr.BacktrackingControlVerb.TheVariants.{Fail}
 use Rattle.fancy_regex_tree.specs.declared.expr_tree.ExprTree.{ExprTree}
@@ -46,6 +46,7 @@ mutual
   regular_prop (conditional c a b) = ×_prop (regular_prop c) (×_prop (regular_prop a) (regular_prop b))
   regular_prop (define_group t) = Unit-prop
   regular_prop (verb v) = fail_prop v
+  regular_prop continue = Unit-prop
   regular_prop (repeat t lo hi greedy) = regular_prop t
   regular_prop _ = ⊥_prop
 
@@ -53,16 +54,16 @@ mutual
   all_prop no_trees = Unit-prop
   all_prop (more_trees t ts) = ×_prop (regular_prop t) (all_prop ts)
 
-supported_prop : (longest : Bool) (pattern : Pattern) → IsProp (IsSupported longest pattern)
-supported_prop longest pattern = hlevel (regular_prop, le_prop, Bool-set)
+supported_prop : (pattern : Pattern) → IsProp (IsSupported pattern)
+supported_prop pattern = hlevel (regular_prop, le_prop)
 
 module _ (o : RegexOptions) (t : Tree) where
-  by_states : ∥ IsLinear o t ∥₁ → is_easy_tree t ≡ false → IsSupported o.leftmost_longest (pattern_of t)
+  by_states : ∥ IsLinear o t ∥₁ → is_easy_tree t ≡ false → IsSupported (pattern_of t)
   by_states is hard =
-      ∥∥₁_elim is (supported_prop o.leftmost_longest (pattern_of t))
+      ∥∥₁_elim is (supported_prop (pattern_of t))
       (λ linear. ⊎_elim (λ (easy : is_easy_tree t ≡ true). absurd (true≢false (sym easy ∙ hard))) (λ states. states) linear.1)
 
-  either_way : (b : Bool) → is_easy_tree t ≡ b → ∥ IsLinear o t ∥₁ → (is_easy_tree t ≡ true) ⊎ IsSupported o.leftmost_longest (pattern_of t)
+  either_way : (b : Bool) → is_easy_tree t ≡ b → ∥ IsLinear o t ∥₁ → (is_easy_tree t ≡ true) ⊎ IsSupported (pattern_of t)
   either_way true easy is = inl easy
   either_way false hard is = inr (by_states is hard)
 

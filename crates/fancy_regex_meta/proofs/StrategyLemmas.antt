@@ -48,27 +48,27 @@ module _ (o : RegexOptions) (i : Info) (unicode longest : Bool) (mode : unicode 
   AreMade found = IfSome found (λ regular. (explicit : Bool) (t : Tree) → info_of i ≡ analysis explicit t → IsRegularOf regular (pattern_in explicit t))
 
   abbrev AreExact : Option Regular → Type 0
-  AreExact found = (explicit : Bool) (t : Tree) → info_of i ≡ analysis explicit t → (IsSome found ↔ IsSupported longest (pattern_in explicit t))
+  AreExact found = (explicit : Bool) (t : Tree) → info_of i ≡ analysis explicit t → (IsSome found ↔ IsSupported (pattern_in explicit t))
 
-  pub has_states : (t : Tree) → IsSupported longest (pattern_of t) → HasStates o t
-  has_states t supported = (empty, subst (λ (b : Bool). IsSupported b (pattern_of t)) far supported)
+  pub has_states : (t : Tree) → IsSupported (pattern_of t) → HasStates o t
+  has_states t supported = (empty, supported)
 
-  pub states_are : (r : Result (Option Regular) CompileError) → IfOk r AreMade → IfOk r (λ found. IfSome found (λ regular. regular.unicode ≡ unicode))
-      → IfOk r AreExact → IfOk r (λ found. IfSome found (λ regular. (t : Tree) → info_of i ≡ analysis false t → IsRegularFor regular o t))
-  states_are (Ok None) made options exact = tt
-  states_are (Ok (Some regular)) made options exact = λ t is. record {
+  pub states_are : (r : Result (Option Regular) CompileError) → IfOk r AreMade → IfOk r (λ found. IfSome found (λ regular. (regular.unicode ≡ unicode) × (regular.longest ≡ longest)))
+      → IfOk r (λ found. IfSome found (λ regular. (t : Tree) → info_of i ≡ analysis false t → IsRegularFor regular o t))
+  states_are (Ok None) made options = tt
+  states_are (Ok (Some regular)) made options = λ t is. record {
     of = made false t is;
-    unicode = options ∙ mode;
-    first = sym far ∙ ((exact false t is).0 refl).first;
+    unicode = options.0 ∙ mode;
+    longest = options.1 ∙ far;
     empty = empty;
   }
-  states_are (Err e) made options exact = tt
+  states_are (Err e) made options = tt
 
   pub exactly_states : (r : Result (Option Regular) CompileError) → IfOk r AreExact
       → IfOk r (λ found. (t : Tree) → info_of i ≡ analysis false t → (IsSome found ↔ HasStates o t))
   exactly_states (Ok found) exact = λ t is. (
     λ some. has_states t ((exact false t is).0 some),
-    λ has. (exact false t is).1 (subst (λ (b : Bool). IsSupported b (pattern_of t)) (sym far) has.1),
+    λ has. (exact false t is).1 has.1,
   )
   exactly_states (Err e) exact = tt
 

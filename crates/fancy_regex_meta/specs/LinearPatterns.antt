@@ -11,11 +11,11 @@ use Rattle.fancy_regex_meta.specs.declared.strategy.Strategy.TheVariants.{Easy, 
 
 -- the tree, with groups numbered from 1, is searched by states with parts where empty matches are allowed
 abbrev pub HasStates : RegexOptions → Tree → Type 0
-HasStates o t = (o.find_not_empty ≡ false) × IsSupported o.leftmost_longest (pattern_of t)
+HasStates o t = (o.find_not_empty ≡ false) × IsSupported (pattern_of t)
 
 -- The tree is linear: empty matches are allowed, and it is easy, or states with parts search for it.
 abbrev pub IsLinear : RegexOptions → Tree → Type 0
-IsLinear o t = (o.find_not_empty ≡ false) × ((is_easy_tree t ≡ true) ⊎ IsSupported o.leftmost_longest (pattern_of t))
+IsLinear o t = (o.find_not_empty ≡ false) × ((is_easy_tree t ≡ true) ⊎ IsSupported (pattern_of t))
 
 -- the pattern of the text is linear
 abbrev pub PatternIsLinear : RegexOptions → List ℕ → Type 0

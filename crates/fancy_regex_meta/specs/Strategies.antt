@@ -43,11 +43,11 @@ RunsUnder (Regular regular prog run) o = Unit {0}
 abbrev pub IsMatcherFor : EasyMatcher → RegexOptions → Tree → Type 0
 IsMatcherFor easy o t = IsEasyOf easy (pattern_of t) × (easy.unicode ≡ o.unicode_mode) × (easy.longest ≡ o.leftmost_longest) × (o.find_not_empty ≡ false)
 
--- The states with parts search as this tree means under these options, which want the first match and allow empty ones.
+-- The states with parts search as this tree means under these options, which allow empty matches.
 pub record IsRegularFor (regular : RegularStates) (o : RegexOptions) (t : Tree) : Type 0 where
   pub of : IsRegularOf regular (pattern_of t)
   pub unicode : regular.unicode ≡ o.unicode_mode
-  pub first : o.leftmost_longest ≡ false
+  pub longest : regular.longest ≡ o.leftmost_longest
   pub empty : o.find_not_empty ≡ false
 
 -- The program of the tree, with its seek table, where no repeat is reversed; with the options' Unicode mode and leftmost-longest mode, and

@@ -123,7 +123,7 @@ fn linear_matcher(
         return Ok(None);
     }
     let wanted = compile_options(options, calls);
-    if !Regular::supports(info, &wanted) {
+    if !Regular::supports(info) {
         return Ok(None);
     }
     match Easy::if_supported(alloc, info, &wanted) {

@@ -7,8 +7,9 @@ use Rattle.fancy_regex_states.specs.declared.atom.Leaf.{Leaf}
 use Rattle.fancy_regex_states.specs.declared.state.State.{State}
 use Rattle.fancy_regex_states.specs.declared.state.State.TheVariants.{Split, Enter, Leave, Ask, Atomic, Match}
 use Rattle.fancy_regex_states.specs.declared.state.State.TheVariants as S
-use Rattle.fancy_regex_parts.specs.Ways.{state_after, place_after}
+use Rattle.fancy_regex_parts.specs.Ways.{state_after, place_after, admits}
 use Rattle.fancy_regex_parts.specs.Does.{DoWhat}
+use Rattle.fancy_regex_parts.specs.declared.step.EndRange.{EndRange}
 
 -- these writes write places up to this one
 abbrev pub AllBy : ℕ → List (ℕ × ℕ) → Type 0
@@ -123,13 +124,13 @@ module _ (view : View) (len : ℕ) (go : ℕ → Continuation) (count d : ℕ)
       group_by part same moved i (go part i).answer names.1 names.2 le (less part i names.0 le (omega (arith, deep))) (omega (arith, deep))
   visit_by Match i names le deep = (le, tt)
 
-module _ (view : View) (len stop : ℕ) (states : List State) (go : ℕ → Continuation) (does : DoWhat view len stop states go) where
+module _ (view : View) (len : ℕ) (range : EndRange) (states : List State) (go : ℕ → Continuation) (does : DoWhat view len range states go) where
   pub own_has : (X : Option Trace → Type 0) (i : ℕ) → X None → X (accept i).answer → X (go 0 i).answer
-  own_has X i none some = subst (λ (k : Continuation). X (k i).answer) (sym does.zero) (by_stop (nat_le i stop))
+  own_has X i none some = subst (λ (k : Continuation). X (k i).answer) (sym does.zero) (by_range (admits range i))
     where
-      by_stop : (b : Bool) → X (if b then accept i else failed).answer
-      by_stop true = some
-      by_stop false = none
+      by_range : (b : Bool) → X (if b then accept i else failed).answer
+      by_range true = some
+      by_range false = none
 
   by_from : (d q i : ℕ) → q < length states → i ≤ len → (go q i).depth < d → EndsBy len (go q i).answer
   by_from zero q i low le deep = absurd (omega arith)

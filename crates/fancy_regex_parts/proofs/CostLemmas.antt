@@ -15,6 +15,7 @@ use Rattle.fancy_regex_states.specs.declared.state.State.{State}
 use Rattle.fancy_regex_states.specs.declared.state.State.TheVariants as S
 use Rattle.fancy_regex_parts.specs.declared.table.PartTable.{PartTable}
 use Rattle.fancy_regex_parts.proofs.StackLemmas.{task_if, one_of}
+use Rattle.fancy_regex_parts.specs.declared.step.EndRange.{EndRange}
 
 pub mode_most : (task : Task) → task_mode task ≤ 1
 mode_most (Visit q i) = omega arith
@@ -41,24 +42,24 @@ module _ (table : PartTable) where
   pending_none = refl
 
   -- a step leaves no more than what is owed
-  pub step_due : (matchers : List CharClassMatcher) (rules : Rules) (stop q : ℕ) (state : State) (at : ℕ) (before after : Option ℕ) (frames : List Frame)
-      → task_due table (step_task matchers rules stop q state at before after) + pending table (step_frames state at frames)
+  pub step_due : (matchers : List CharClassMatcher) (rules : Rules) (range : EndRange) (q : ℕ) (state : State) (at : ℕ) (before after : Option ℕ) (frames : List Frame)
+      → task_due table (step_task matchers rules range q state at before after) + pending table (step_frames state at frames)
       ≤ owed table state + pending table frames
-  step_due matchers rules stop q (S.Read leaf next) at before None frames = omega arith
-  step_due matchers rules stop q (S.Read leaf next) at before (Some c) frames =
+  step_due matchers rules range q (S.Read leaf next) at before None frames = omega arith
+  step_due matchers rules range q (S.Read leaf next) at before (Some c) frames =
       task_if (λ task. task_due table task + pending table frames ≤ due table next + pending table frames)
       (leaf_matches_char rules.unicode matchers leaf c) (Visit next (at + len_utf8 c)) (Answer None) (λ yes. omega arith) (λ no. omega arith)
-  step_due matchers rules stop q (S.Look check next) at before after frames =
+  step_due matchers rules range q (S.Look check next) at before after frames =
       task_if (λ task. task_due table task + pending table frames ≤ due table next + pending table frames)
-      (passes matchers rules check before after) (Visit next at) (Answer None) (λ yes. omega arith) (λ no. omega arith)
-  step_due matchers rules stop q (S.Back next) at None after frames = omega arith
-  step_due matchers rules stop q (S.Back next) at (Some c) after frames = omega arith
-  step_due matchers rules stop q (S.Split first second) at before after frames = omega (arith, pending_cons (Branch second at) frames)
-  step_due matchers rules stop q (S.Ask part negated next) at before after frames = omega (arith, pending_cons (Ask negated next at) frames)
-  step_due matchers rules stop q (S.Enter g next) at before after frames = omega arith
-  step_due matchers rules stop q (S.Leave g next) at before after frames = omega arith
-  step_due matchers rules stop q (S.Atomic part same moved) at before after frames = omega (arith, pending_cons (Atomic at same moved) frames)
-  step_due matchers rules stop q S.Match at before after frames = omega arith
+      (passes matchers rules check at before after) (Visit next at) (Answer None) (λ yes. omega arith) (λ no. omega arith)
+  step_due matchers rules range q (S.Back next) at None after frames = omega arith
+  step_due matchers rules range q (S.Back next) at (Some c) after frames = omega arith
+  step_due matchers rules range q (S.Split first second) at before after frames = omega (arith, pending_cons (Branch second at) frames)
+  step_due matchers rules range q (S.Ask part negated next) at before after frames = omega (arith, pending_cons (Ask negated next at) frames)
+  step_due matchers rules range q (S.Enter g next) at before after frames = omega arith
+  step_due matchers rules range q (S.Leave g next) at before after frames = omega arith
+  step_due matchers rules range q (S.Atomic part same moved) at before after frames = omega (arith, pending_cons (Atomic at same moved) frames)
+  step_due matchers rules range q S.Match at before after frames = omega arith
 
   -- nor does a frame
   pub resume_due : (f : Frame) (end : Option ℕ) → task_due table (resume_task f end) ≤ frame_due table f

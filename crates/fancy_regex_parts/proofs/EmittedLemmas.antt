@@ -1,14 +1,14 @@
 -- The states of a pattern that do what an attempt says have ways: those of the attempt.
-use Rattle.std.proofs.Common.{◌≡◌, ◌∙◌, ℕ, ◌+◌, ◌-◌, ◌*◌, ◌<◌, ◌≤◌, ◌⊎◌, Bool, true, false, ◌&&◌, List, length, Option, Some, None, refl, sym, ap, subst, inl, inr, arith, if◌then◌else◌, true≢false, nat_le, lt-ltb, le-ltb, le-leb, ne_eqb}
+use Rattle.std.proofs.Common.{◌≡◌, ◌∙◌, ℕ, ◌+◌, ◌-◌, ◌*◌, ◌<◌, ◌≤◌, ◌⊎◌, Bool, true, false, ◌&&◌, List, length, Option, Some, None, refl, sym, ap, subst, inl, inr, arith, if◌then◌else◌, true≢false, not, nat_lt, lt-ltb, le-ltb, le-leb, ne_eqb}
 use Rattle.std.proofs.lemmas.Bool.{and_from, and_left, cases_eq, cases_lt, lt-leb}
 use Rattle.std.proofs.lemmas.Option.{none-some, same_Some}
 use Rattle.std.proofs.lemmas.Str.{len_utf8_bounds}
 use Rattle.std.specs.Char.{len_utf8}
-use Rattle.std.specs.Prelude.{IsCharBoundary, nat_eq, nat_lt, option_and_then, option_map, unwrap_or}
+use Rattle.std.specs.Prelude.{IsCharBoundary, nat_eq, option_and_then, option_map, unwrap_or}
 use Rattle.regex_hir.specs.Text.{is_some_and, char_at}
 use Rattle.regex_hir.proofs.TextLemmas.{char_at_fits}
 use Rattle.fancy_regex_class.specs.declared.class.CharClassMatcher.{CharClassMatcher}
-use Rattle.fancy_regex_states.specs.Attempts.{View, Trace, AttemptResult, Continuation, better_trace, guard, write, after_writes, accept, accept_by, failed, asked_answer, passed_answer, passed_depth, resume, stepped, reads, visit, Agrees, ShowsAll}
+use Rattle.fancy_regex_states.specs.Attempts.{View, Trace, AttemptResult, Continuation, better_trace, guard, write, after_writes, accept, failed, asked_answer, passed_answer, passed_depth, resume, stepped, reads, visit, Agrees, ShowsAll}
 use Rattle.fancy_regex_states.specs.CharTests.{leaf_matches_char}
 use Rattle.fancy_regex_states.specs.First.{state_at}
 use Rattle.fancy_regex_states.specs.declared.atom.Leaf.{Leaf}
@@ -16,7 +16,9 @@ use Rattle.fancy_regex_states.specs.declared.rules.Rules.{Rules}
 use Rattle.fancy_regex_states.specs.declared.state.State.{State}
 use Rattle.fancy_regex_states.specs.declared.state.State.TheVariants.{Split, Enter, Leave, Ask, Atomic, Match}
 use Rattle.fancy_regex_states.specs.declared.state.State.TheVariants as S
-use Rattle.fancy_regex_parts.specs.Ways.{Explains, Falls, first_way, answer_end, ways_of, text_view, or_else, if_asked, state_after, place_after, match_end}
+use Rattle.fancy_regex_parts.specs.Ways.{Explains, Falls, first_way, answer_end, ways_of, text_view, or_else, if_asked, state_after, place_after, match_end, admits}
+use Rattle.fancy_regex_parts.specs.Does.{accept_in}
+use Rattle.fancy_regex_parts.specs.declared.step.EndRange.{EndRange}
 
 -- where a trace ends
 abbrev ends_at : Option Trace → Option ℕ
@@ -92,25 +94,18 @@ and_true true b e = e
 and_true false b e = refl
 
 -- the pattern's own final state, and another one
-accepted : (within past : Bool) (i : ℕ) → (within ≡ true → past ≡ false) → (within ≡ false → past ≡ true)
-    → answer_end (if within then accept i else failed) ≡ (if past then None else Some i)
-accepted true true i h k = absurd (true≢false (h refl))
-accepted true false i h k = refl
-accepted false true i h k = refl
-accepted false false i h k = absurd (true≢false (sym (k refl)))
+accepted : (within : Bool) (i : ℕ) → answer_end (if within then accept i else failed) ≡ (if not within then None else Some i)
+accepted true i = refl
+accepted false i = refl
 
-own_end : (stop i : ℕ) → answer_end (accept_by stop i) ≡ match_end stop 0 i
-own_end stop i =
-    elim (cases_lt stop i) [
-      | inl lt ↦ accepted (nat_le i stop) (nat_lt stop i) i (λ e. absurd (true≢false (sym e ∙ lt-leb i stop lt))) (λ e. lt-ltb stop i lt)
-      | inr ge ↦ accepted (nat_le i stop) (nat_lt stop i) i (λ e. le-ltb stop i ge) (λ e. absurd (true≢false (sym (le-leb i stop ge) ∙ e)))
-    ]
+own_end : (range : EndRange) (i : ℕ) → answer_end (accept_in range i) ≡ match_end range 0 i
+own_end range i = accepted (admits range i) i
 
 part_end : (own past : Bool) (i : ℕ) → own ≡ false → Some i ≡ (if own && past then None else Some i)
 part_end true past i e = absurd (true≢false e)
 part_end false past i e = refl
 
-module _ (matchers : List CharClassMatcher) (rules : Rules) (stop : ℕ) (text : List ℕ) (view : View) (go : ℕ → Continuation) (first : view.longest ≡ false)
+module _ (matchers : List CharClassMatcher) (rules : Rules) (range : EndRange) (text : List ℕ) (view : View) (go : ℕ → Continuation) (first : view.longest ≡ false)
     (shows : ShowsAll matchers rules text (text_view view)) where
   reads_here : (leaf : Leaf) (i : ℕ) (after : Option ℕ) → view.has leaf i ≡ is_some_and after (leaf_matches_char rules.unicode matchers leaf)
       → view.next i ≡ i + unwrap_or (option_map len_utf8 after) 1 → ((c : ℕ) → after ≡ Some c → i + len_utf8 c ≤ length text)
@@ -129,7 +124,7 @@ module _ (matchers : List CharClassMatcher) (rules : Rules) (stop : ℕ) (text :
 
   -- what a state gives, but for the pattern's own final state, ends where its first way does
   visit_end : (q : ℕ) (state : State) (i : ℕ) → nat_eq q 0 ≡ false → IsCharBoundary text i
-      → answer_end (visit view (length text) go state i) ≡ first_way (text_view view) (ways_of go) stop q state i
+      → answer_end (visit view (length text) go state i) ≡ first_way (text_view view) (ways_of go) range q state i
   visit_end q (S.Read leaf next) i other b = guarded _ _ (go next (view.next i)) (reads_is leaf i b)
   visit_end q (S.Look check next) i other b = guarded _ _ (go next i) refl
   visit_end q (S.Back next) i other b = stepped_is (view.back i) i (go next)
@@ -138,7 +133,7 @@ module _ (matchers : List CharClassMatcher) (rules : Rules) (stop : ℕ) (text :
   visit_end q (Leave g next) i other b = written (2 * g + 1) i (go next i).answer
   visit_end q (Ask part negated next) i other b = asked_is negated (go part i).answer (go next i).answer
   visit_end q (Atomic part same moved) i other b = passed_is go i same moved (go part i).answer
-  visit_end q Match i other b = part_end (nat_eq q 0) (nat_lt stop i) i other
+  visit_end q Match i other b = part_end (nat_eq q 0) (not (admits range i)) i other
 
   -- and is deeper than what it leads to
   visit_falls : (state : State) (i : ℕ) → IsCharBoundary text i
@@ -153,19 +148,19 @@ module _ (matchers : List CharClassMatcher) (rules : Rules) (stop : ℕ) (text :
   visit_falls (Atomic part same moved) i b = (omega arith, λ e is. omega (arith, passed_falls go i same moved (go part i).answer e is))
   visit_falls Match i b = tt
 
-  -- What each state has: the pattern's own final state accepts by `stop`, and the others do what `go` says.
-  module _ (states : List State) (zero : go 0 ≡ accept_by stop) (final : state_at states 0 ≡ Match) where
-    own_way : (i : ℕ) → (ways_of go).end 0 i ≡ first_way (text_view view) (ways_of go) stop 0 (state_at states 0) i
+  -- What each state has: the pattern's own final state accepts in the range, and the others do what `go` says.
+  module _ (states : List State) (zero : go 0 ≡ accept_in range) (final : state_at states 0 ≡ Match) where
+    own_way : (i : ℕ) → (ways_of go).end 0 i ≡ first_way (text_view view) (ways_of go) range 0 (state_at states 0) i
     own_way i =
-        ap (λ (k : Continuation). answer_end (k i)) zero ∙ own_end stop i
-        ∙ ap (λ (s : State). first_way (text_view view) (ways_of go) stop 0 s i) (sym final)
+        ap (λ (k : Continuation). answer_end (k i)) zero ∙ own_end range i
+        ∙ ap (λ (s : State). first_way (text_view view) (ways_of go) range 0 s i) (sym final)
 
     own_falls : (i d : ℕ) → Falls (text_view view) (ways_of go) (state_at states 0) i d
     own_falls i d = subst (λ (s : State). Falls (text_view view) (ways_of go) s i d) (sym final) tt
 
     module _ (q i : ℕ) (low : q < length states) (b : IsCharBoundary text i) where
       other_way : nat_eq q 0 ≡ false → Agrees view (length text) go (length states) q (state_at states q)
-          → (ways_of go).end q i ≡ first_way (text_view view) (ways_of go) stop q (state_at states q) i
+          → (ways_of go).end q i ≡ first_way (text_view view) (ways_of go) range q (state_at states q) i
       other_way other agree = ap answer_end (agree.does i b.0) ∙ visit_end q (state_at states q) i other b
 
       other_falls : Agrees view (length text) go (length states) q (state_at states q)
@@ -176,11 +171,11 @@ module _ (matchers : List CharClassMatcher) (rules : Rules) (stop : ℕ) (text :
 
     -- the states have these ways in the text
     pub explains_of : ((q : ℕ) → q < length states → (q ≡ 0) ⊎ Agrees view (length text) go (length states) q (state_at states q))
-        → Explains matchers rules stop states text (text_view view) (ways_of go)
+        → Explains matchers rules range states text (text_view view) (ways_of go)
     explains_of agree = record {
       shows = shows;
       ends = λ q i low b. elim (cases_eq q 0) [
-        | inl own ↦ subst (λ (p : ℕ). (ways_of go).end p i ≡ first_way (text_view view) (ways_of go) stop p (state_at states p) i) (sym own) (own_way i)
+        | inl own ↦ subst (λ (p : ℕ). (ways_of go).end p i ≡ first_way (text_view view) (ways_of go) range p (state_at states p) i) (sym own) (own_way i)
         | inr not_own ↦ elim (agree q low) [
           | inl own ↦ absurd (not_own own)
           | inr does ↦ other_way q i low b (ne_eqb q 0 not_own) does

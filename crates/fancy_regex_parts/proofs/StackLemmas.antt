@@ -1,6 +1,6 @@
 -- A push and a pop, with the top first, and where pairs lie.
 use Rattle.std.proofs.Common.{◌≡◌, ◌∙◌, ℕ, ◌+◌, ◌-◌, ◌^◌, ◌<◌, ◌≤◌, Bool, true, false, List, [], ◌∷◌, ◌++◌, length, Option, Some, None, refl, sym, ap, subst, arith, length-append, if◌then◌else◌, inl, inr, ⊎_elim, lt-ltb, le-ltb}
-use Rattle.std.specs.Prelude.{◌&&◌, IfSome, IsCharBoundary, nat_eq, nat_lt}
+use Rattle.std.specs.Prelude.{not, ◌&&◌, IfSome, IsCharBoundary, nat_eq}
 use Rattle.std.specs.Char.{len_utf8}
 use Rattle.std.proofs.lemmas.Bool.{cases_eq, cases_lt}
 use Rattle.fancy_regex_class.specs.declared.class.CharClassMatcher.{CharClassMatcher}
@@ -19,6 +19,8 @@ use Rattle.fancy_regex_parts.specs.declared.recall.Recall.{Recall}
 use Rattle.fancy_regex_states.specs.declared.state.State.{State}
 use Rattle.fancy_regex_states.specs.declared.state.State.TheVariants as S
 use Rattle.fancy_regex_parts.proofs.PlaceLemmas.{IsPrior}
+use Rattle.fancy_regex_parts.specs.Ways.{admits}
+use Rattle.fancy_regex_parts.specs.declared.step.EndRange.{EndRange}
 
 pub top_pushed : (fs : List Frame) (f : Frame) → top_first (fs ++ f ∷ []) ≡ f ∷ top_first fs
 unfolding top_first
@@ -69,27 +71,27 @@ module _ (table : PartTable) (text : List ℕ) (base : ℕ) (small : length text
       ((led _ at same at h h.names.1 (omega arith) (omega arith) h.boundary, led _ at moved at h h.names.2 (omega arith) (omega arith) h.boundary), within)
   frames_within S.Match at frames h within = within
 
-  pub task_within : (matchers : List CharClassMatcher) (rules : Rules) (stop q : ℕ) (state : State) (at : ℕ) (before after : Option ℕ)
+  pub task_within : (matchers : List CharClassMatcher) (rules : Rules) (range : EndRange) (q : ℕ) (state : State) (at : ℕ) (before after : Option ℕ)
       → IsLedInReach table text base state at → base ≤ at → IfSome before (IsPrior text at)
       → IfSome after (λ c. IsCharBoundary text (at + len_utf8 c))
-      → IsTaskWithin table text base (step_task matchers rules stop q state at before after)
-  task_within matchers rules stop q (S.Read leaf next) at before None h low prior ends = tt
-  task_within matchers rules stop q (S.Read leaf next) at before (Some c) h low prior ends =
+      → IsTaskWithin table text base (step_task matchers rules range q state at before after)
+  task_within matchers rules range q (S.Read leaf next) at before None h low prior ends = tt
+  task_within matchers rules range q (S.Read leaf next) at before (Some c) h low prior ends =
       task_if (IsTaskWithin table text base) (leaf_matches_char rules.unicode matchers leaf c) (Visit next (at + len_utf8 c)) (Answer None)
       (λ yes. led _ at next (at + len_utf8 c) h h.names (omega arith) (omega arith) ends) (λ no. tt)
-  task_within matchers rules stop q (S.Look check next) at before after h low prior ends =
-      task_if (IsTaskWithin table text base) (passes matchers rules check before after) (Visit next at) (Answer None)
+  task_within matchers rules range q (S.Look check next) at before after h low prior ends =
+      task_if (IsTaskWithin table text base) (passes matchers rules check at before after) (Visit next at) (Answer None)
       (λ yes. led _ at next at h h.names (omega arith) (omega arith) h.boundary) (λ no. tt)
-  task_within matchers rules stop q (S.Back next) at None after h low prior ends = tt
-  task_within matchers rules stop q (S.Back next) at (Some c) after h low prior ends =
+  task_within matchers rules range q (S.Back next) at None after h low prior ends = tt
+  task_within matchers rules range q (S.Back next) at (Some c) after h low prior ends =
       record { state = h.names; boundary = prior.0; low = omega (arith, h.low, prior.1, prior.2, small, h.boundary.0) }
-  task_within matchers rules stop q (S.Split first second) at before after h low prior ends = led _ at first at h h.names.0 (omega arith) (omega arith) h.boundary
-  task_within matchers rules stop q (S.Ask part negated next) at before after h low prior ends = led _ at part at h h.names.0 (omega arith) (omega arith) h.boundary
-  task_within matchers rules stop q (S.Enter g next) at before after h low prior ends = led _ at next at h h.names (omega arith) (omega arith) h.boundary
-  task_within matchers rules stop q (S.Leave g next) at before after h low prior ends = led _ at next at h h.names (omega arith) (omega arith) h.boundary
-  task_within matchers rules stop q (S.Atomic part same moved) at before after h low prior ends = led _ at part at h h.names.0 (omega arith) (omega arith) h.boundary
-  task_within matchers rules stop q S.Match at before after h low prior ends =
-      end_of (λ e. IsTaskWithin table text base (Answer e)) (nat_eq q 0 && nat_lt stop at) None (Some at) tt (record { low = low; boundary = h.boundary })
+  task_within matchers rules range q (S.Split first second) at before after h low prior ends = led _ at first at h h.names.0 (omega arith) (omega arith) h.boundary
+  task_within matchers rules range q (S.Ask part negated next) at before after h low prior ends = led _ at part at h h.names.0 (omega arith) (omega arith) h.boundary
+  task_within matchers rules range q (S.Enter g next) at before after h low prior ends = led _ at next at h h.names (omega arith) (omega arith) h.boundary
+  task_within matchers rules range q (S.Leave g next) at before after h low prior ends = led _ at next at h h.names (omega arith) (omega arith) h.boundary
+  task_within matchers rules range q (S.Atomic part same moved) at before after h low prior ends = led _ at part at h h.names.0 (omega arith) (omega arith) h.boundary
+  task_within matchers rules range q S.Match at before after h low prior ends =
+      end_of (λ e. IsTaskWithin table text base (Answer e)) (nat_eq q 0 && not (admits range at)) None (Some at) tt (record { low = low; boundary = h.boundary })
 
   -- a later place is in reach of the same state
   reach_later : (q i j : ℕ) → IsInReach table text base q i → i ≤ j → IsCharBoundary text j → IsInReach table text base q j

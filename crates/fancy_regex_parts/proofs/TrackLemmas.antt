@@ -19,6 +19,7 @@ use Rattle.fancy_regex_states.specs.declared.state.State.{State}
 use Rattle.fancy_regex_states.specs.declared.state.State.TheVariants as S
 use Rattle.fancy_regex_parts.proofs.RecallLemmas.{place_parts}
 use Rattle.fancy_regex_parts.proofs.StackLemmas.{task_if}
+use Rattle.fancy_regex_parts.specs.declared.step.EndRange.{EndRange}
 
 -- a choice between an answer and none
 pub end_if : (X : Option ℕ → Type 0) (b c : Bool) (x : Option ℕ) → b ≡ c → X (if b then x else None) → (c ≡ true → X x) × (c ≡ false → X None)
@@ -58,15 +59,15 @@ module _ (ways : Ways) (heads : List ℕ) (base : ℕ) where
   open_deeper d k (Atomic i same moved ∷ rest) at_open h = open_deeper d k rest at_open h
 
   -- what a step over a state makes of the answer, where all less deep pairs are below the at_open ones
-  pub step_resumes : (view : View) (matchers : List CharClassMatcher) (rules : Rules) (stop q : ℕ) (state : State) (at d : ℕ) (before after : Option ℕ)
+  pub step_resumes : (view : View) (matchers : List CharClassMatcher) (rules : Rules) (range : EndRange) (q : ℕ) (state : State) (at d : ℕ) (before after : Option ℕ)
       (frames : List Frame) (goal : Option ℕ) → Shows matchers rules view at before after → Falls view ways state at d
       → ((less : ℕ) → less < d → IsBelowOpen ways heads base less frames)
-      → Resumes ways heads base frames (first_way view ways stop q state at) goal
-      → Resumes ways heads base (step_frames state at frames) (task_end ways heads base (step_task matchers rules stop q state at before after)) goal
-      × IsTaskBelow ways heads base (step_task matchers rules stop q state at before after) (step_frames state at frames)
-  step_resumes view matchers rules stop q (S.Read leaf next) at d before None frames goal shows falls below h =
+      → Resumes ways heads base frames (first_way view ways range q state at) goal
+      → Resumes ways heads base (step_frames state at frames) (task_end ways heads base (step_task matchers rules range q state at before after)) goal
+      × IsTaskBelow ways heads base (step_task matchers rules range q state at before after) (step_frames state at frames)
+  step_resumes view matchers rules range q (S.Read leaf next) at d before None frames goal shows falls below h =
       ((end_if (λ a. Resumes ways heads base frames a goal) (view.has leaf at) false (ways.end next (view.next at)) (shows.has leaf) h).1 refl, tt)
-  step_resumes view matchers rules stop q (S.Read leaf next) at d before (Some c) frames goal shows falls below h =
+  step_resumes view matchers rules range q (S.Read leaf next) at d before (Some c) frames goal shows falls below h =
       let on = end_if (λ a. Resumes ways heads base frames a goal) (view.has leaf at) (leaf_matches_char rules.unicode matchers leaf c)
       (ways.end next (view.next at)) (shows.has leaf) h in
       let next_is : view.next at ≡ at + len_utf8 c = shows.next in
@@ -77,28 +78,28 @@ module _ (ways : Ways) (heads : List ℕ) (base : ℕ) where
         subst (λ (j : ℕ). IsBelowOpen ways heads base (ways.depth next j) frames) next_is (below _ (falls (shows.has leaf ∙ yes))),
       ))
       (λ no. (on.1 no, tt))
-  step_resumes view matchers rules stop q (S.Look check next) at d before after frames goal shows falls below h =
-      let on = end_if (λ a. Resumes ways heads base frames a goal) (view.holds check at) (passes matchers rules check before after)
+  step_resumes view matchers rules range q (S.Look check next) at d before after frames goal shows falls below h =
+      let on = end_if (λ a. Resumes ways heads base frames a goal) (view.holds check at) (passes matchers rules check at before after)
       (ways.end next at) (shows.holds check) h in
       task_if (λ task. Resumes ways heads base frames (task_end ways heads base task) goal × IsTaskBelow ways heads base task frames)
-      (passes matchers rules check before after) (Visit next at) (Answer None)
+      (passes matchers rules check at before after) (Visit next at) (Answer None)
       (λ yes. (on.0 yes, below _ (falls (shows.holds check ∙ yes))))
       (λ no. (on.1 no, tt))
-  step_resumes view matchers rules stop q (S.Back next) at d None after frames goal shows falls below h =
+  step_resumes view matchers rules range q (S.Back next) at d None after frames goal shows falls below h =
       (subst (λ (o : Option ℕ). Resumes ways heads base frames (option_and_then (λ bytes. ways.end next (at - bytes)) o) goal) shows.back h, tt)
-  step_resumes view matchers rules stop q (S.Back next) at d (Some c) after frames goal shows falls below h = (
+  step_resumes view matchers rules range q (S.Back next) at d (Some c) after frames goal shows falls below h = (
     subst (λ (o : Option ℕ). Resumes ways heads base frames (option_and_then (λ bytes. ways.end next (at - bytes)) o) goal) shows.back h,
     below _ (falls (len_utf8 c) shows.back),
   )
-  step_resumes view matchers rules stop q (S.Split first second) at d before after frames goal shows falls below h =
+  step_resumes view matchers rules range q (S.Split first second) at d before after frames goal shows falls below h =
       ((below _ falls.1, h), below _ falls.0)
-  step_resumes view matchers rules stop q (S.Ask part negated next) at d before after frames goal shows falls below h =
+  step_resumes view matchers rules range q (S.Ask part negated next) at d before after frames goal shows falls below h =
       ((below _ falls.1, h), below _ falls.0)
-  step_resumes view matchers rules stop q (S.Enter g next) at d before after frames goal shows falls below h = (h, below _ falls)
-  step_resumes view matchers rules stop q (S.Leave g next) at d before after frames goal shows falls below h = (h, below _ falls)
-  step_resumes view matchers rules stop q (S.Atomic part same moved) at d before after frames goal shows falls below h =
+  step_resumes view matchers rules range q (S.Enter g next) at d before after frames goal shows falls below h = (h, below _ falls)
+  step_resumes view matchers rules range q (S.Leave g next) at d before after frames goal shows falls below h = (h, below _ falls)
+  step_resumes view matchers rules range q (S.Atomic part same moved) at d before after frames goal shows falls below h =
       ((λ e is. below _ (falls.1 e is), h), below _ falls.0)
-  step_resumes view matchers rules stop q S.Match at d before after frames goal shows falls below h = (h, tt)
+  step_resumes view matchers rules range q S.Match at d before after frames goal shows falls below h = (h, tt)
 
   module _ {old new : Recall} where
     -- the cells say the same
@@ -218,13 +219,13 @@ module _ (ways : Ways) (heads : List ℕ) (base : ℕ) where
   }
 
   -- a step over a state that is not marked
-  pub Tracks-step : {old : Recall} (view : View) (matchers : List CharClassMatcher) (rules : Rules) (stop : ℕ) (state : State) (q at : ℕ) (before after : Option ℕ)
+  pub Tracks-step : {old : Recall} (view : View) (matchers : List CharClassMatcher) (rules : Rules) (range : EndRange) (state : State) (q at : ℕ) (before after : Option ℕ)
       (frames : List Frame) (goal : Option ℕ) → Shows matchers rules view at before after → Falls view ways state at (ways.depth q at)
-      → ways.end q at ≡ first_way view ways stop q state at
+      → ways.end q at ≡ first_way view ways range q state at
       → Tracks ways heads base old (Visit q at) frames goal
-      → Tracks ways heads base old (step_task matchers rules stop q state at before after) (step_frames state at frames) goal
-  Tracks-step {old} view matchers rules stop state q at before after frames goal shows falls is t =
-      let on = step_resumes view matchers rules stop q state at (ways.depth q at) before after frames goal shows falls
+      → Tracks ways heads base old (step_task matchers rules range q state at before after) (step_frames state at frames) goal
+  Tracks-step {old} view matchers rules range state q at before after frames goal shows falls is t =
+      let on = step_resumes view matchers rules range q state at (ways.depth q at) before after frames goal shows falls
       (λ less lt. below_less (ways.depth q at) less frames (omega arith) t.below)
       (subst (λ (a : Option ℕ). Resumes ways heads base frames a goal) is t.resumes) in
       record {
@@ -237,15 +238,15 @@ module _ (ways : Ways) (heads : List ℕ) (base : ℕ) where
       }
 
   -- a step over a marked state whose pair was opened
-  pub Tracks-open : {old new : Recall} (k : ℕ) (view : View) (matchers : List CharClassMatcher) (rules : Rules) (stop : ℕ) (state : State) (q at : ℕ)
+  pub Tracks-open : {old new : Recall} (k : ℕ) (view : View) (matchers : List CharClassMatcher) (rules : Rules) (range : EndRange) (state : State) (q at : ℕ)
       (before after : Option ℕ) (frames : List Frame) (goal : Option ℕ) → IsOpened old new k
       → cell_end ways heads base k ≡ ways.end q at → cell_depth ways heads base k ≡ ways.depth q at
       → Shows matchers rules view at before after → Falls view ways state at (ways.depth q at)
-      → ways.end q at ≡ first_way view ways stop q state at
+      → ways.end q at ≡ first_way view ways range q state at
       → Tracks ways heads base old (Visit q at) frames goal
-      → Tracks ways heads base new (step_task matchers rules stop q state at before after) (step_frames state at (Open k ∷ frames)) goal
-  Tracks-open {old} {new} k view matchers rules stop state q at before after frames goal opened end_is depth_is shows falls is t =
-      let on = step_resumes view matchers rules stop q state at (ways.depth q at) before after (Open k ∷ frames) goal shows falls
+      → Tracks ways heads base new (step_task matchers rules range q state at before after) (step_frames state at (Open k ∷ frames)) goal
+  Tracks-open {old} {new} k view matchers rules range state q at before after frames goal opened end_is depth_is shows falls is t =
+      let on = step_resumes view matchers rules range q state at (ways.depth q at) before after (Open k ∷ frames) goal shows falls
       (λ less lt. (omega (arith, lt, depth_is), below_less (ways.depth q at) less frames (omega arith) t.below))
       (subst (λ (a : Option ℕ). Resumes ways heads base (Open k ∷ frames) a goal) is (sym end_is, t.resumes)) in
       let r = opened_remembers k frames opened t.remembers in

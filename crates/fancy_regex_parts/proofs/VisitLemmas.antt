@@ -93,12 +93,12 @@ module _ (context : PartContext) (text new_text : Counted) (recall : Recall) (fr
       → AllWithin context.table.now (looked_text text) recall.base rest
       → IfSome (char_at (looked_text text) at) (λ c. IsCharBoundary (looked_text text) (at + len_utf8 c))
       → IsAtTask context (looked_text text) recall.base
-      (step_task context.matchers.now context.rules context.stop q state at (char_before (looked_text text) at) (char_at (looked_text text) at))
+      (step_task context.matchers.now context.rules context.range q state at (char_before (looked_text text) at) (char_at (looked_text text) at))
       (step_frames state at rest)
   stepped_within state state_is rest within next =
       let led = leads_in_reach context.table.now (looked_text text) recall.base q at state table place.task state_is in
       record {
-        task = task_within context.table.now (looked_text text) recall.base small context.matchers.now context.rules context.stop q state at _ _ led here_is.low
+        task = task_within context.table.now (looked_text text) recall.base small context.matchers.now context.rules context.range q state at _ _ led here_is.low
             (place_back (looked_text text) at (char_before (looked_text text) at) refl) next;
         frames = frames_within context.table.now (looked_text text) recall.base small state at rest led within;
       }
@@ -115,13 +115,13 @@ module _ (context : PartContext) (text new_text : Counted) (recall : Recall) (fr
 
     module _ (next : IfSome (char_at (looked_text text) at) (λ c. IsCharBoundary (looked_text text) (at + len_utf8 c))) (task : Task) (new_frames : List Frame)
         (state : State) (state_is : state ≡ state_at context.table.now.states.items q)
-        (task_is : task ≡ step_task context.matchers.now context.rules context.stop q state at (char_before (looked_text text) at) (char_at (looked_text text) at))
+        (task_is : task ≡ step_task context.matchers.now context.rules context.range q state at (char_before (looked_text text) at) (char_at (looked_text text) at))
         (frames_are : new_frames ≡ step_frames state at frames) where
       pub unmarked_paid : IsPaid context text new_text recall recall (due context.table.now q + pending context.table.now frames)
           (task_due context.table.now task + pending context.table.now new_frames)
       unmarked_paid =
           let here : owed context.table.now state + 1 ≤ cost_of context.table.now q = subst (λ s. owed context.table.now s + 1 ≤ cost_of context.table.now q) (sym state_is) right.paid in
-          let step = step_due context.table.now context.matchers.now context.rules context.stop q state at (char_before (looked_text text) at) (char_at (looked_text text) at) frames in
+          let step = step_due context.table.now context.matchers.now context.rules context.range q state at (char_before (looked_text text) at) (char_at (looked_text text) at) frames in
           record {
             base = refl;
             memory = memory;
@@ -132,13 +132,13 @@ module _ (context : PartContext) (text new_text : Counted) (recall : Recall) (fr
       pub unmarked_visit : IsVisit context (looked_text text) recall recall frames new_frames q at task
       unmarked_visit =
           let here : owed context.table.now state + 1 ≤ cost_of context.table.now q = subst (λ s. owed context.table.now s + 1 ≤ cost_of context.table.now q) (sym state_is) right.paid in
-          let step = step_due context.table.now context.matchers.now context.rules context.stop q state at (char_before (looked_text text) at) (char_at (looked_text text) at) frames in
+          let step = step_due context.table.now context.matchers.now context.rules context.range q state at (char_before (looked_text text) at) (char_at (looked_text text) at) frames in
           record {
             tracking = λ view ways has goal t.
                 let is = has.ends q at place.task.state place.task.boundary in
                 let falls = has.falls q at place.task.state place.task.boundary in
                 rw (task_is, frames_are, state_is)
-                (Tracks-step ways context.table.now.heads.items recall.base view context.matchers.now context.rules context.stop (state_at context.table.now.states.items q) q at _ _ frames goal
+                (Tracks-step ways context.table.now.heads.items recall.base view context.matchers.now context.rules context.range (state_at context.table.now.states.items q) q at _ _ frames goal
                 (has.shows at place.task.boundary) falls is t);
             within = rw (task_is, frames_are) (stepped_within state state_is frames place.frames next);
             progress = rw (task_is, frames_are) (omega (
@@ -147,7 +147,7 @@ module _ (context : PartContext) (text new_text : Counted) (recall : Recall) (fr
               step,
               due_none context.table.now q none,
               step_length state at frames,
-              mode_most (step_task context.matchers.now context.rules context.stop q state at (char_before (looked_text text) at) (char_at (looked_text text) at)),
+              mode_most (step_task context.matchers.now context.rules context.range q state at (char_before (looked_text text) at) (char_at (looked_text text) at)),
             ));
           }
 
@@ -219,13 +219,13 @@ module _ (context : PartContext) (text new_text : Counted) (recall : Recall) (fr
       module _ (looks : IsOnlyLookedAt text new_text) (count : look_count new_text ≤ look_count text + 1)
           (next : IfSome (char_at (looked_text text) at) (λ c. IsCharBoundary (looked_text text) (at + len_utf8 c))) (task : Task) (new_frames : List Frame)
           (state : State) (state_is : state ≡ state_at context.table.now.states.items q)
-          (task_is : task ≡ step_task context.matchers.now context.rules context.stop q state at (char_before (looked_text text) at) (char_at (looked_text text) at))
+          (task_is : task ≡ step_task context.matchers.now context.rules context.range q state at (char_before (looked_text text) at) (char_at (looked_text text) at))
           (frames_are : new_frames ≡ step_frames state at (Open k ∷ frames)) where
         pub opened_paid : IsPaid context text new_text recall new_recall (due context.table.now q + pending context.table.now frames)
             (task_due context.table.now task + pending context.table.now new_frames)
         opened_paid =
             let here : owed context.table.now state + 1 ≤ cost_of context.table.now q = subst (λ s. owed context.table.now s + 1 ≤ cost_of context.table.now q) (sym state_is) right.paid in
-            let step = step_due context.table.now context.matchers.now context.rules context.stop q state at (char_before (looked_text text) at) (char_at (looked_text text) at) (Open k ∷ frames) in
+            let step = step_due context.table.now context.matchers.now context.rules context.range q state at (char_before (looked_text text) at) (char_at (looked_text text) at) (Open k ∷ frames) in
             record {
               base = opened.base;
               memory = of_text_opened context (looked_text text) memory at k opened rows here_is;
@@ -237,13 +237,13 @@ module _ (context : PartContext) (text new_text : Counted) (recall : Recall) (fr
         opened_visit =
             let here : owed context.table.now state + 1 ≤ cost_of context.table.now q = subst (λ s. owed context.table.now s + 1 ≤ cost_of context.table.now q) (sym state_is) right.paid in
             let m = right.marked mark some in
-            let step = step_due context.table.now context.matchers.now context.rules context.stop q state at (char_before (looked_text text) at) (char_at (looked_text text) at) (Open k ∷ frames) in
+            let step = step_due context.table.now context.matchers.now context.rules context.range q state at (char_before (looked_text text) at) (char_at (looked_text text) at) (Open k ∷ frames) in
             record {
               tracking = λ view ways has goal t.
                   let is = cell_is ways context.table.now.heads.items recall.base q at mark m.0 m.1 here_is.low in
                   let pair = k_is ∙ cell_pair in
                   rw (task_is, frames_are, state_is)
-                  (Tracks-open ways context.table.now.heads.items recall.base k view context.matchers.now context.rules context.stop (state_at context.table.now.states.items q) q at _ _ frames goal
+                  (Tracks-open ways context.table.now.heads.items recall.base k view context.matchers.now context.rules context.range (state_at context.table.now.states.items q) q at _ _ frames goal
                   opened (rw pair is.0) (rw pair is.1) (has.shows at place.task.boundary) (has.falls q at place.task.state place.task.boundary) (has.ends q at place.task.state place.task.boundary) t);
               within = rw (task_is, frames_are) (stepped_within state state_is (Open k ∷ frames) (tt, place.frames) next);
               progress = rw (task_is, frames_are) (omega (
@@ -253,6 +253,6 @@ module _ (context : PartContext) (text new_text : Counted) (recall : Recall) (fr
                 cost_more,
                 pending_cons context.table.now (Open k) frames,
                 step_length state at (Open k ∷ frames),
-                mode_most (step_task context.matchers.now context.rules context.stop q state at (char_before (looked_text text) at) (char_at (looked_text text) at)),
+                mode_most (step_task context.matchers.now context.rules context.range q state at (char_before (looked_text text) at) (char_at (looked_text text) at)),
               ));
             }

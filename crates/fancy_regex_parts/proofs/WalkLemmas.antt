@@ -16,7 +16,7 @@ use Rattle.fancy_regex_states.specs.declared.rules.Rules.{Rules}
 use Rattle.fancy_regex_states.specs.declared.state.State.{State}
 use Rattle.fancy_regex_states.specs.declared.state.State.TheVariants.{Split, Enter, Leave, Ask, Atomic, Match}
 use Rattle.fancy_regex_states.specs.declared.state.State.TheVariants as S
-use Rattle.fancy_regex_parts.specs.Ways.{ways_of, text_view, state_after, place_after}
+use Rattle.fancy_regex_parts.specs.Ways.{ways_of, text_view, state_after, place_after, admits}
 use Rattle.fancy_regex_parts.specs.Tables.{IsRightAt, IsTable, lowest_of, lowest_for, needed_reach_of, reach_of, mark_of, cost_of, cell_cost, known_cost, due, due_of, owed, table_weight}
 use Rattle.fancy_regex_parts.specs.Recall.{cell, cell_number}
 use Rattle.fancy_regex_parts.specs.Frames.{IsPlace, IsInReach, IsLedInReach, cell_depth}
@@ -169,18 +169,18 @@ module _ (context : PartContext) (text : List ℕ) (view : View) (go : ℕ → C
   -- the states have the ways of what they do
   pub has_ways : HasWays context text (text_view view) (ways_of go)
   has_ways =
-      explains_of context.matchers.now context.rules context.stop text view go tried.first tried.shows context.table.now.states.items tried.does.zero
+      explains_of context.matchers.now context.rules context.range text view go tried.first tried.shows context.table.now.states.items tried.does.zero
       tried.does.final tried.does.agree
 
   own_follows : (i : ℕ) → HasTrace (go 0 i).answer → Follows go (go 0 i).depth (trace_writes (go 0 i).answer) []
-  own_follows i h = record { ways = tt; below = tt; writes = sym (by_stop (nat_le i context.stop) (is ∙ refl) h) }
+  own_follows i h = record { ways = tt; below = tt; writes = sym (by_range (admits context.range i) (is ∙ refl) h) }
     where
-      is : (go 0 i).answer ≡ (if nat_le i context.stop then accept i else failed).answer
+      is : (go 0 i).answer ≡ (if admits context.range i then accept i else failed).answer
       is = ap (λ (k : Continuation). (k i).answer) tried.does.zero
 
-      by_stop : (b : Bool) → (go 0 i).answer ≡ (if b then accept i else failed).answer → HasTrace (go 0 i).answer → trace_writes (go 0 i).answer ≡ []
-      by_stop true e has = ap trace_writes e
-      by_stop false e has = absurd (subst HasTrace e has)
+      by_range : (b : Bool) → (go 0 i).answer ≡ (if b then accept i else failed).answer → HasTrace (go 0 i).answer → trace_writes (go 0 i).answer ≡ []
+      by_range true e has = ap trace_writes e
+      by_range false e has = absurd (subst HasTrace e has)
 
   -- the first way from a state of the context at a place
   pair_follows : (q i : ℕ) → q < length context.table.now.states.items → IsCharBoundary text i → HasTrace (go q i).answer
@@ -207,7 +207,7 @@ module _ (context : PartContext) (text : List ℕ) (view : View) (go : ℕ → C
 
   -- what is written is in the text
   pub writes_by : (q i : ℕ) → q < length context.table.now.states.items → i ≤ length text → AllBy (length text) (trace_writes (go q i).answer)
-  writes_by q i low le = by_of (go q i).answer (ends_by view (length text) context.stop context.table.now.states.items go tried.does q i low le)
+  writes_by q i low le = by_of (go q i).answer (ends_by view (length text) context.range context.table.now.states.items go tried.does q i low le)
 
 module _ (go : ℕ → Continuation) where
   all_both : (xs ys : List WalkTask) → all_writes go (xs ++ ys) ≡ all_writes go ys ++ all_writes go xs

@@ -11,6 +11,7 @@ use Rattle.fancy_regex_parts.specs.Tables.{may_write, leads_to_write}
 use Rattle.fancy_regex_parts.specs.Walk.{trace_writes}
 use Rattle.fancy_regex_parts.specs.Does.{DoWhat}
 use Rattle.fancy_regex_parts.proofs.BetweenLemmas.{EndsBy, either_has, guard_has, own_has, picked, after_below, place_by, read_between, ends_by}
+use Rattle.fancy_regex_parts.specs.declared.step.EndRange.{EndRange}
 
 -- the way, if there is one, writes nothing
 abbrev WritesNone : Option Trace → Type 0
@@ -81,18 +82,18 @@ module _ (view : View) (len : ℕ) (go : ℕ → Continuation) (count d : ℕ) (
       (less part i names.0 le one.0 (omega (arith, deep))) (omega (arith, deep))
   visit_none Match i names no_write le within deep = refl
 
-module _ (view : View) (len stop : ℕ) (states : List State) (go : ℕ → Continuation) (does : DoWhat view len stop states go) (writes : List Bool)
+module _ (view : View) (len : ℕ) (range : EndRange) (states : List State) (go : ℕ → Continuation) (does : DoWhat view len range states go) (writes : List Bool)
     (all : (q : ℕ) → q < length states → may_write writes q ≡ false → leads_to_write writes (state_at states q) ≡ false) where
   none_from : (d q i : ℕ) → q < length states → i ≤ len → may_write writes q ≡ false → (go q i).depth < d → WritesNone (go q i).answer
   none_from zero q i low le no_write deep = absurd (omega arith)
   none_from (suc d) q i low le no_write deep =
       elim (does.agree q low) [
-        | inl own ↦ subst (λ (p : ℕ). WritesNone (go p i).answer) (sym own) (own_has view len stop states go does WritesNone i refl refl)
+        | inl own ↦ subst (λ (p : ℕ). WritesNone (go p i).answer) (sym own) (own_has view len range states go does WritesNone i refl refl)
         | inr agree ↦
             let is = agree.does i le in
             subst (λ (r : AttemptResult). WritesNone r.answer) (sym is)
             (visit_none view len go (length states) d writes (λ p j pl jl s pd. none_from d p j pl jl s pd) (state_at states q) i agree.names
-            (all q low no_write) le (λ p pl. ends_by view len stop states go does p i pl le)
+            (all q low no_write) le (λ p pl. ends_by view len range states go does p i pl le)
             (subst (λ (r : AttemptResult). r.depth ≤ d) is (omega (arith, deep))))
       ]
 

@@ -14,6 +14,7 @@ use Rattle.fancy_regex_parts.specs.declared.frame.Frame.TheVariants.{Branch, Ope
 use Rattle.fancy_regex_parts.specs.declared.frame.Task.{Task}
 use Rattle.fancy_regex_parts.specs.declared.frame.Task.TheVariants.{Visit, Answer}
 use Rattle.fancy_regex_parts.specs.declared.recall.Recall.{Recall}
+use Rattle.fancy_regex_parts.specs.declared.step.EndRange.{EndRange}
 use Rattle.fancy_regex_states.specs.declared.state.State.{State}
 use Rattle.fancy_regex_states.specs.declared.state.State.TheVariants as S
 use Rattle.fancy_regex_parts.specs.declared.table.PartTable.{PartTable}
@@ -47,16 +48,16 @@ module _ (matchers : List CharClassMatcher) (rules : Rules) where
       if leaf_matches_char rules.unicode matchers leaf c then Visit next (at + len_utf8 c) else Answer None
 
   -- what is done next after a state, which has the number q
-  abbrev pub step_task : ℕ → ℕ → State → ℕ → Option ℕ → Option ℕ → Task
-  step_task stop q (S.Read leaf next) at before after = read_task leaf next at after
-  step_task stop q (S.Look check next) at before after = if passes matchers rules check before after then Visit next at else Answer None
-  step_task stop q (S.Back next) at before after = back_task next at before
-  step_task stop q (S.Split first second) at before after = Visit first at
-  step_task stop q (S.Ask part negated next) at before after = Visit part at
-  step_task stop q (S.Enter g next) at before after = Visit next at
-  step_task stop q (S.Leave g next) at before after = Visit next at
-  step_task stop q (S.Atomic part same moved) at before after = Visit part at
-  step_task stop q S.Match at before after = Answer (match_end stop q at)
+  abbrev pub step_task : EndRange → ℕ → State → ℕ → Option ℕ → Option ℕ → Task
+  step_task range q (S.Read leaf next) at before after = read_task leaf next at after
+  step_task range q (S.Look check next) at before after = if passes matchers rules check at before after then Visit next at else Answer None
+  step_task range q (S.Back next) at before after = back_task next at before
+  step_task range q (S.Split first second) at before after = Visit first at
+  step_task range q (S.Ask part negated next) at before after = Visit part at
+  step_task range q (S.Enter g next) at before after = Visit next at
+  step_task range q (S.Leave g next) at before after = Visit next at
+  step_task range q (S.Atomic part same moved) at before after = Visit part at
+  step_task range q S.Match at before after = Answer (match_end range q at)
 
 -- what is done next where the answer comes to a frame
 abbrev pub resume_task : Frame → Option ℕ → Task

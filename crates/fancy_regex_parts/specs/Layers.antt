@@ -17,7 +17,7 @@ use Rattle.fancy_regex_parts.specs.declared.step.PartContext.{PartContext}
 
 -- the states of a context have these ways in the text
 abbrev pub HasWays : PartContext → List ℕ → View → Ways → Type 0
-HasWays context text view ways = Explains context.matchers.now context.rules context.stop context.table.now.states.items text view ways
+HasWays context text view ways = Explains context.matchers.now context.rules context.range context.table.now.states.items text view ways
 
 -- the text was looked at, and nothing else was done with it
 pub record IsOnlyLookedAt (old new : Counted) : Type 0 where

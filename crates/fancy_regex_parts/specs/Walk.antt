@@ -20,7 +20,7 @@ use Rattle.fancy_regex_parts.specs.declared.groups.WalkTask.TheVariants.{Follow,
 -- the states of a context do in the text what `go` says, and the view shows the text
 pub record IsTried (context : PartContext) (text : List ℕ) (view : View) (go : ℕ → Continuation) : Type 0 where
   pub first : view.longest ≡ false
-  pub does : DoWhat view (length text) context.stop context.table.now.states.items go
+  pub does : DoWhat view (length text) context.range context.table.now.states.items go
   pub shows : ShowsAll context.matchers.now context.rules text (text_view view)
 
 -- no state that a walk from this entry comes to takes more looks for a step

@@ -1,5 +1,5 @@
 -- What parts do: where the first way from a state at a place ends.
-use Rattle.std.specs.Prelude.{◌≡◌, ℕ, ◌-◌, ◌<◌, Bool, true, false, List, length, Option, Some, None, ◌&&◌, option_and_then, option_map, if◌then◌else◌, nat_lt, nat_eq, IsCharBoundary}
+use Rattle.std.specs.Prelude.{◌≡◌, ℕ, ◌-◌, ◌<◌, Bool, true, false, List, length, Option, Some, None, not, ◌&&◌, option_and_then, option_map, if◌then◌else◌, nat_le, nat_lt, nat_eq, IsCharBoundary}
 use Rattle.fancy_regex_class.specs.declared.class.CharClassMatcher.{CharClassMatcher}
 use Rattle.fancy_regex_states.specs.Attempts.{View, AttemptResult, Continuation, ShowsAll}
 use Rattle.fancy_regex_states.specs.First.{state_at}
@@ -7,6 +7,7 @@ use Rattle.fancy_regex_states.specs.declared.rules.Rules.{Rules}
 use Rattle.fancy_regex_states.specs.declared.state.State.{State}
 use Rattle.fancy_regex_states.specs.declared.state.State.TheVariants.{Split, Enter, Leave, Ask, Atomic, Match}
 use Rattle.fancy_regex_states.specs.declared.state.State.TheVariants as S
+use Rattle.fancy_regex_parts.specs.declared.step.EndRange.{EndRange}
 
 -- For each state and each place where the first way from there ends, if there is one, and a number that falls along each edge of the
 -- search.
@@ -46,11 +47,15 @@ state_after i same moved e = if nat_lt i e then moved else same
 abbrev pub place_after : ℕ → ℕ → ℕ
 place_after i e = if nat_lt i e then e else i
 
--- Where the final state of this number ends at i: there. The pattern's own, state 0, ends by `stop`.
-abbrev pub match_end : ℕ → ℕ → ℕ → Option ℕ
-match_end stop q i = if nat_eq q 0 && nat_lt stop i then None else Some i
+-- whether the pattern's own final state matches at i
+abbrev pub admits : EndRange → ℕ → Bool
+admits range i = nat_le range.least i && nat_le i range.most
 
-module _ (view : View) (ways : Ways) (stop q : ℕ) where
+-- Where the final state of this number ends at i: there. The pattern's own, state 0, matches in the range alone.
+abbrev pub match_end : EndRange → ℕ → ℕ → Option ℕ
+match_end range q i = if nat_eq q 0 && not (admits range i) then None else Some i
+
+module _ (view : View) (ways : Ways) (range : EndRange) (q : ℕ) where
   -- where the first way of a state, which has the number q, ends at a place
   abbrev pub first_way : State → ℕ → Option ℕ
   first_way (S.Read leaf next) i = if view.has leaf i then ways.end next (view.next i) else None
@@ -61,7 +66,7 @@ module _ (view : View) (ways : Ways) (stop q : ℕ) where
   first_way (Split first second) i = or_else (ways.end first i) (ways.end second i)
   first_way (Ask part negated next) i = if_asked negated (ways.end part i) (ways.end next i)
   first_way (Atomic part same moved) i = option_and_then (λ e. ways.end (state_after i same moved e) (place_after i e)) (ways.end part i)
-  first_way Match i = match_end stop q i
+  first_way Match i = match_end range q i
 
 module _ (view : View) (ways : Ways) where
   -- each pair that this state leads to at i is less deep than d
@@ -78,8 +83,8 @@ module _ (view : View) (ways : Ways) where
   Falls Match i d = Unit {0}
 
 -- The view says what looks at the text show, and the states have these ways at each boundary of it.
-pub record Explains (matchers : List CharClassMatcher) (rules : Rules) (stop : ℕ) (states : List State) (text : List ℕ) (view : View)
+pub record Explains (matchers : List CharClassMatcher) (rules : Rules) (range : EndRange) (states : List State) (text : List ℕ) (view : View)
     (ways : Ways) : Type 0 where
   pub shows : ShowsAll matchers rules text view
-  pub ends : (q i : ℕ) → q < length states → IsCharBoundary text i → ways.end q i ≡ first_way view ways stop q (state_at states q) i
+  pub ends : (q i : ℕ) → q < length states → IsCharBoundary text i → ways.end q i ≡ first_way view ways range q (state_at states q) i
   pub falls : (q i : ℕ) → q < length states → IsCharBoundary text i → Falls view ways (state_at states q) i (ways.depth q i)

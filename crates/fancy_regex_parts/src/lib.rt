@@ -18,5 +18,5 @@ pub use groups::{WalkMemory, walk};
 pub use memory::PartMemory;
 pub use question::{ask, ask_each};
 pub use starts::find;
-pub use step::PartContext;
+pub use step::{EndRange, PartContext};
 pub use table::PartTable;

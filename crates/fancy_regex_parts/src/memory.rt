@@ -9,7 +9,7 @@ use crate::step::PartContext;
 use std::alloc::Global;
 
 /// What earlier questions have found out about the parts of one context in one text, and the stack that they use. It has to be started
-/// anew for other parts, another text or another end of the range.
+/// anew for other parts, another text, other rules (the place of `\G` among them) or another range of ends.
 #[derive(Drop)]
 pub struct PartMemory {
     /// What is known of pairs of a marked state and a byte offset.

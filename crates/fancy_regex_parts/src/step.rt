@@ -17,6 +17,27 @@ use fancy_regex_class::{CharClassMatcher, Counted};
 use fancy_regex_states::{Leaf, Rules, State, leaf_matches, test_holds};
 use std::alloc::AllocError;
 
+/// The byte offsets at which the pattern's own final state, state 0, matches. The text outside of them is seen all the same.
+#[derive(Clone, Copy)]
+pub struct EndRange {
+    /// The first of them.
+    pub least: usize,
+    /// The last of them.
+    pub most: usize,
+}
+
+impl EndRange {
+    ghost use Rattle.fancy_regex_parts.specs.Ways.{admits as admits_is};
+
+    /// Whether the final state matches at this byte offset.
+    #[inline(always)]
+    fn admits(self, at: usize) -> bool
+        ensures { result ≡ admits_is self at }
+    {
+        self.least <= at && at <= self.most
+    }
+}
+
 /// What a search in parts reads and does not change.
 #[derive(Clone, Copy)]
 pub struct PartContext<'p> {
@@ -28,8 +49,8 @@ pub struct PartContext<'p> {
     pub rules: Rules,
     /// The state at which an attempt begins.
     pub entry: usize,
-    /// The pattern's own final state, state 0, matches up to this byte offset. The text after it is seen all the same.
-    pub stop: usize,
+    /// Where the pattern's own final state, state 0, matches.
+    pub range: EndRange,
 }
 
 /// A byte offset in the text, and the characters around it.
@@ -52,7 +73,7 @@ fn step(
 ) -> Result<Task, AllocError>
     requires boundary { IsCharBoundary (looked_text text.old) at }
     requires small { length (looked_text text.old) < 2 ^ 63 }
-    ensures task { IfOk result (λ task. task ≡ step_task context.now.matchers.now context.now.rules context.now.stop q state at
+    ensures task { IfOk result (λ task. task ≡ step_task context.now.matchers.now context.now.rules context.now.range q state at
         (char_before (looked_text text.old) at) (char_at (looked_text text.old) at)) }
     ensures frames { OnOk result (top_first stack.new.items ≡ step_frames state at (top_first stack.old.items)) }
     ensures next { IfSome (char_at (looked_text text.old) at) (λ c. IsCharBoundary (looked_text text.old) (at + len_utf8 c)) }
@@ -76,7 +97,7 @@ fn advance(
     requires after { IfSome place.after (λ c. place.at + len_utf8 c < 2 ^ 64) }
     requires before { IfSome place.before (λ c. len_utf8 c ≤ place.at) }
     ensures task { IfOk result (λ task. task ≡
-        step_task context.now.matchers.now context.now.rules context.now.stop q state place.at place.before place.after) }
+        step_task context.now.matchers.now context.now.rules context.now.range q state place.at place.before place.after) }
     ensures frames { OnOk result (top_first stack.new.items ≡ step_frames state place.at (top_first stack.old.items)) }
 {
     let at = place.at;
@@ -87,6 +108,7 @@ fn advance(
                 context.matchers,
                 context.rules,
                 test,
+                at,
                 place.before,
                 place.after,
             ) {
@@ -115,16 +137,20 @@ fn advance(
             push(stack, Frame::Atomic { at, same, moved })?;
             Ok(Task::Visit { state: part, at })
         }
-        State::Match => Ok(Task::Answer(final_end(context.stop, q, at))),
+        State::Match => Ok(Task::Answer(final_end(context.range, q, at))),
     }
 }
 
-/// Where the final state of the number `q` ends at `at`: there, but for the pattern's own after `stop`.
+/// Where the final state of the number `q` ends at `at`: there, but for the pattern's own where the range does not admit it.
 #[inline(always)]
-fn final_end(stop: usize, q: usize, at: usize) -> Option<usize>
-    ensures { result ≡ match_end stop q at }
+fn final_end(range: EndRange, q: usize, at: usize) -> Option<usize>
+    ensures { result ≡ match_end range q at }
 {
-    if q == 0 && at > stop { None } else { Some(at) }
+    if q == 0 && !range.admits(at) {
+        None
+    } else {
+        Some(at)
+    }
 }
 
 /// Pushes a frame. The error is want of memory.

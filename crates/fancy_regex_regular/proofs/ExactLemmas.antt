@@ -37,9 +37,8 @@ module _ (unicode : Bool) (states : List State) (entry : ℕ) (matchers : List C
       (λ other. other.names)
       (d.agree q h)
 
-pub made_in : (longest explicit : Bool) (t : Tree) → IsSupported longest (pattern_in explicit t) → IsMadeFor (pattern_in explicit t)
-made_in longest explicit t is = record { regular = is.regular; light = is.light }
+pub made_in : (explicit : Bool) (t : Tree) → IsSupported (pattern_in explicit t) → IsMadeFor (pattern_in explicit t)
+made_in explicit t is = record { regular = is.regular; light = is.light }
 
-pub supported_in : (longest explicit : Bool) (t : Tree) → longest ≡ false → IsMadeFor (pattern_in explicit t)
-    → IsSupported longest (pattern_in explicit t)
-supported_in longest explicit t first made = record { first = first; regular = made.regular; light = made.light }
+pub supported_in : (explicit : Bool) (t : Tree) → IsMadeFor (pattern_in explicit t) → IsSupported (pattern_in explicit t)
+supported_in explicit t made = record { regular = made.regular; light = made.light }

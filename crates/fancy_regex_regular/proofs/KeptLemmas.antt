@@ -12,7 +12,7 @@ use Rattle.fancy_regex_parts.specs.Ways.{Ways, Explains}
 use Rattle.fancy_regex_parts.specs.declared.recall.Recall.{Recall}
 use Rattle.fancy_regex_parts.specs.declared.memory.PartMemory.{PartMemory}
 use Rattle.fancy_regex_parts.specs.declared.step.PartContext.{PartContext}
-use Rattle.fancy_regex_regular.specs.Regulars.{IsContextOf, lowest_asked}
+use Rattle.fancy_regex_regular.specs.Regulars.{IsContextOf, continue_place, ends_from, lowest_asked}
 use Rattle.fancy_regex_regular.specs.Inputs.{IsOfInput, MemoryServes}
 use Rattle.fancy_regex_regular.specs.Kept.{kept_rules, AreTrue, IsTrueFor, IsKeptOf, IsReady}
 use Rattle.fancy_regex_regular.specs.declared.memory.Kept.{Kept}
@@ -26,21 +26,24 @@ known ways heads recall remembers = record {
   ends = remembers.ends;
 }
 
-module _ (regular : Regular) (text : List ℕ) (input : RunInput) (context : PartContext) (is : IsContextOf regular input context) where
+module _ (regular : Regular) (text : List ℕ) (input : RunInput) (context : PartContext) (is : IsContextOf regular input 0 context) where
+  abbrev place : Option ℕ
+  place = continue_place regular input
+
   abbrev Explained : Kept → View → Ways → Type 0
-  Explained kept view ways = Explains regular.matchers.items (kept_rules regular kept) kept.stop regular.table.states.items text view ways
+  Explained kept view ways = Explains regular.matchers.items (kept_rules regular kept) (ends_from 0 kept.stop) regular.table.states.items text view ways
 
   -- the states have the same ways in this search as in those that are kept
-  explained : (kept : Kept) → IsOfInput kept input → (view : View) (ways : Ways) → HasWays context text view ways → Explained kept view ways
+  explained : (kept : Kept) → IsOfInput kept input place → (view : View) (ways : Ways) → HasWays context text view ways → Explained kept view ways
   explained kept of view ways has =
-      rw (of.stop, of.no_start_text, of.no_end_text) (rw (is.table_is, is.matchers_are, is.rules_are, is.stop_is) at has)
+      rw (of.stop, of.no_start_text, of.no_end_text, of.continue_at) (rw (is.table_is, is.matchers_are, is.rules_are, is.range_is) at has)
 
-  has_ways : (kept : Kept) → IsOfInput kept input → (view : View) (ways : Ways) → Explained kept view ways → HasWays context text view ways
+  has_ways : (kept : Kept) → IsOfInput kept input place → (view : View) (ways : Ways) → Explained kept view ways → HasWays context text view ways
   has_ways kept of view ways explains =
-      rw (is.table_is, is.matchers_are, is.rules_are, is.stop_is) (rw (of.stop, of.no_start_text, of.no_end_text) at explains)
+      rw (is.table_is, is.matchers_are, is.rules_are, is.range_is) (rw (of.stop, of.no_start_text, of.no_end_text, of.continue_at) at explains)
 
-  served : (o : Option Kept) (memory : RegularMemory) → memory.kept ≡ o → MemoryServes o input (lowest_asked regular input) → IfSome o (IsTrueFor regular text memory.parts)
-      → IsReady context text input memory
+  served : (o : Option Kept) (memory : RegularMemory) → memory.kept ≡ o → MemoryServes o input place (lowest_asked regular input) → IfSome o (IsTrueFor regular text memory.parts)
+      → IsReady regular context text input memory
   served None memory same serves is_true = absurd serves
   served (Some kept) memory same serves is_true = record {
     low = rw (is.table_is, is.entry_is) (omega (arith, is_true.first, serves.low));
@@ -53,16 +56,16 @@ module _ (regular : Regular) (text : List ℕ) (input : RunInput) (context : Par
     remembers = λ view ways has.
         let known = is_true.remembers view ways (explained kept serves.input_is view ways has) in
         rw is.table_is (record { fails = λ k at. inl (known.fails k at); ends = known.ends });
-    of_input = subst (λ (o : Option Kept). IfSome o (λ kept. (memory.parts.recall.base ≡ kept.first) × IsOfInput kept input)) (sym same)
+    of_input = subst (λ (o : Option Kept). IfSome o (λ kept. (memory.parts.recall.base ≡ kept.first) × IsOfInput kept input place)) (sym same)
         (is_true.first, serves.input_is);
   }
 
   -- what serves this search can be asked in it
-  pub ready_of : (memory : RegularMemory) → MemoryServes memory.kept input (lowest_asked regular input) → IsKeptOf regular text memory → IsReady context text input memory
+  pub ready_of : (memory : RegularMemory) → MemoryServes memory.kept input place (lowest_asked regular input) → IsKeptOf regular text memory → IsReady regular context text input memory
   ready_of memory serves is_kept = served memory.kept memory refl serves is_kept
 
   -- what is true of this search's states is kept
-  pub kept_of : (o : Option Kept) (parts : PartMemory) → IfSome o (λ kept. (parts.recall.base ≡ kept.first) × IsOfInput kept input)
+  pub kept_of : (o : Option Kept) (parts : PartMemory) → IfSome o (λ kept. (parts.recall.base ≡ kept.first) × IsOfInput kept input place)
       → vec_len parts.stack ≡ 0 → IsOfText context text parts.recall
       → ((view : View) (ways : Ways) → HasWays context text view ways → IsTrueOf context ways parts.recall)
       → IfSome o (IsTrueFor regular text parts)
@@ -79,16 +82,16 @@ module _ (regular : Regular) (text : List ℕ) (input : RunInput) (context : Par
 
   -- it can be asked
   pub can_ask : (memory : RegularMemory) (counted : Counted) → looked_text counted ≡ text → length text < 2 ^ 63 → IsTable context.table.now
-      → IsReady context text input memory → CanAsk context counted memory.parts
+      → IsReady regular context text input memory → CanAsk context counted memory.parts
   can_ask memory counted same small table ready =
       record { table = table; of_text = rw same ready.of_text; small = rw same small; stack = ready.stack }
 
   -- and what it is after questions is kept
-  pub kept_after : (memory : RegularMemory) (parts : PartMemory) (old new : Counted) → looked_text old ≡ text → IsReady context text input memory
+  pub kept_after : (memory : RegularMemory) (parts : PartMemory) (old new : Counted) → looked_text old ≡ text → IsReady regular context text input memory
       → LeavesMemory context old new memory.parts parts → IfSome memory.kept (IsTrueFor regular text parts)
   kept_after memory parts old new same ready leaves =
       let remembers : (view : View) (ways : Ways) → HasWays context text view ways → IsTrueOf context ways memory.parts.recall
       → IsTrueOf context ways parts.recall = rw same at leaves.remembers in
       kept_of memory.kept parts
-      (subst (λ (b : ℕ). IfSome memory.kept (λ kept. (b ≡ kept.first) × IsOfInput kept input)) (sym leaves.base) ready.of_input)
+      (subst (λ (b : ℕ). IfSome memory.kept (λ kept. (b ≡ kept.first) × IsOfInput kept input place)) (sym leaves.base) ready.of_input)
       leaves.stack (rw same at leaves.of_text) (λ view ways has. remembers view ways has (ready.remembers view ways has))

@@ -1,3 +1,7 @@
+pub mod ContinueLemmas
+pub mod LongestLemmas
+pub mod AskedLemmas
+pub mod FarLemmas
 pub mod RegularSpanLemmas
 pub mod RegularGroupLemmas
 pub mod BuildLemmas

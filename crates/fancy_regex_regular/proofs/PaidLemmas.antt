@@ -9,7 +9,7 @@ use Rattle.fancy_regex_parts.proofs.WeightLemmas.{known_most}
 use Rattle.fancy_regex_regular.specs.Inputs.{MemoryServes}
 use Rattle.fancy_regex_regular.specs.Iterations.{paid_by, paid_in, MayServe, IsPaidWithin}
 use Rattle.fancy_regex_regular.specs.Kept.{IsTrueFor}
-use Rattle.fancy_regex_regular.specs.Regulars.{IsRegularOf, lowest_asked}
+use Rattle.fancy_regex_regular.specs.Regulars.{IsRegularOf, continue_place, lowest_asked}
 use Rattle.fancy_regex_regular.specs.Weights.{tree_state_weight}
 use Rattle.fancy_regex_meaning.specs.Groups.{Pattern}
 use Rattle.fancy_regex_regular.proofs.RegularWeightLemmas.{states_light, due_most}
@@ -18,13 +18,13 @@ use Rattle.fancy_regex_regular.specs.declared.regular.Regular.{Regular}
 
 module _ (regular : Regular) where
   -- where the memory serves the search
-  pub paid_served : (input : RunInput) (parts : PartMemory) (o : Option Kept) → MemoryServes o input (lowest_asked regular input) → paid_in regular input parts o ≤ paid_by regular parts
+  pub paid_served : (input : RunInput) (parts : PartMemory) (o : Option Kept) → MemoryServes o input (continue_place regular input) (lowest_asked regular input) → paid_in regular input parts o ≤ paid_by regular parts
   paid_served input parts None serves = absurd serves
   paid_served input parts (Some kept) serves = omega arith
 
   -- where it begins anew, since it has no row for the first start
   pub paid_anew : (text : List ℕ) (input : RunInput) (parts new : PartMemory) (o : Option Kept) → IfSome o (IsTrueFor regular text parts) → MayServe regular o input
-      → (MemoryServes o input (lowest_asked regular input) → parts.recall.rows ≤ lowest_asked regular input - parts.recall.base)
+      → (MemoryServes o input (continue_place regular input) (lowest_asked regular input) → parts.recall.rows ≤ lowest_asked regular input - parts.recall.base)
       → new.recall.base ≡ lowest_asked regular input
       → paid_in regular input parts o ≤ paid_by regular new
   paid_anew text input parts new None is_true serves past is =
@@ -50,7 +50,7 @@ module _ (regular : Regular) where
       mul-le-mul_left (length text + 1) (omega (arith, regular.right.light, light)) in
       omega (arith, known, all, weighs)
 
-  pub paid_of : (text : List ℕ) (input : RunInput) (parts : PartMemory) (o : Option Kept) → MemoryServes o input (lowest_asked regular input) → IfSome o (IsTrueFor regular text parts)
+  pub paid_of : (text : List ℕ) (input : RunInput) (parts : PartMemory) (o : Option Kept) → MemoryServes o input (continue_place regular input) (lowest_asked regular input) → IfSome o (IsTrueFor regular text parts)
       → parts.recall.base ≤ length text → IsPaidWithin regular text parts
   paid_of text input parts None serves is_true low = absurd serves
   paid_of text input parts (Some kept) serves is_true low = paid_within text parts kept is_true low

@@ -21,10 +21,10 @@ use Rattle.fancy_regex_parts.specs.Ways.{Ways, Explains, ways_of, text_view}
 use Rattle.fancy_regex_parts.specs.declared.step.PartContext.{PartContext}
 use Rattle.fancy_regex_linear.specs.Attempt.{apply, trace_end}
 use Rattle.fancy_regex_linear.specs.Meaning.{Spot}
-use Rattle.fancy_regex_linear.specs.Easy.{found_slots, found_at, rules_for}
+use Rattle.fancy_regex_linear.specs.Easy.{found_slots, found_at}
 use Rattle.fancy_regex_linear.specs.RegularStates.{AreRegularStates}
 use Rattle.fancy_regex_linear.proofs.RegularAnswerLemmas.{tried, of_match, of_way, match_found}
-use Rattle.fancy_regex_regular.specs.Regulars.{IsContextOf}
+use Rattle.fancy_regex_regular.specs.Regulars.{IsContextOf, continue_place, ends_from, rules_at}
 use Rattle.fancy_regex_regular.specs.Starts.{last_start}
 use Rattle.fancy_regex_regular.specs.declared.regular.Regular.{Regular}
 use Rattle.fancy_regex_regular.proofs.RegularSpanLemmas.{IsSearched, starts_are}
@@ -124,16 +124,16 @@ pub record IsWayOf (unicode : Bool) (text : List ℕ) (input : RunInput) (patter
       ≡ Some (found_slots (not (pattern.first_group == 0)) (found_at p e (walk_apply trace.writes (replicate (2 * length pattern.groups) 18446744073709551615))))
 
 -- what a context reads is of its pattern and input
-module _ (context : PartContext) (regular : Regular) (input : RunInput) (is : IsContextOf regular input context) (text : List ℕ) (view : View) where
-  pub ways_in : (ways : Ways) → Explains regular.matchers.items (rules_for regular.unicode false input) input.range.end regular.table.states.items text view ways
+module _ (context : PartContext) (regular : Regular) (input : RunInput) (least : ℕ) (is : IsContextOf regular input least context) (text : List ℕ) (view : View) where
+  pub ways_in : (ways : Ways) → Explains regular.matchers.items (rules_at regular.unicode input (continue_place regular input)) (ends_from least input.range.end) regular.table.states.items text view ways
       → HasWays context text view ways
-  ways_in ways explains = rw (is.table_is, is.matchers_are, is.rules_are, is.stop_is) explains
+  ways_in ways explains = rw (is.table_is, is.matchers_are, is.rules_are, is.range_is) explains
 
-  pub tried_in : (go : ℕ → Continuation) → view.longest ≡ false → DoWhat view (length text) input.range.end regular.table.states.items go
-      → ShowsAll regular.matchers.items (rules_for regular.unicode false input) text (text_view view) → IsTried context text view go
+  pub tried_in : (go : ℕ → Continuation) → view.longest ≡ false → DoWhat view (length text) (ends_from least input.range.end) regular.table.states.items go
+      → ShowsAll regular.matchers.items (rules_at regular.unicode input (continue_place regular input)) text (text_view view) → IsTried context text view go
   tried_in go first does shows = record {
     first = first;
-    does = rw (is.table_is, is.stop_is) does;
+    does = rw (is.table_is, is.range_is) does;
     shows = rw (is.matchers_are, is.rules_are) shows;
   }
 
@@ -148,7 +148,7 @@ last_within false first stop h = omega arith
 
 module _ (unicode : Bool) (states : List State) (entry : ℕ) (matchers : List CharClassMatcher) (pattern : Pattern)
     (is : AreRegularStates unicode states entry matchers pattern) (text : List ℕ) (input : RunInput)
-    (searched : IsSearched unicode states entry matchers pattern text input) where
+    (place : Option ℕ) (searched : IsSearched unicode states entry matchers pattern text input place) where
   abbrev places : List ℕ
   places = boundaries text input.first (last_start input)
 

@@ -14,7 +14,6 @@ use Rattle.fancy_regex_parts.specs.Find.{earliest}
 use Rattle.fancy_regex_parts.specs.Does.{DoWhat}
 use Rattle.fancy_regex_parts.specs.Ways.{Explains, answer_end, ways_of, text_view}
 use Rattle.fancy_regex_parts.proofs.EmittedLemmas.{explains_of}
-use Rattle.fancy_regex_linear.specs.Easy.{rules_for}
 use Rattle.fancy_regex_linear.specs.EasyPatterns.{span_of_match}
 use Rattle.fancy_regex_linear.specs.Plain.{IsRegular, classes, re_of}
 use Rattle.fancy_regex_linear.specs.RegularStates.{AreRegularStates}
@@ -22,7 +21,10 @@ use Rattle.fancy_regex_linear.proofs.CharTestLemmas.{shows_all}
 use Rattle.fancy_regex_linear.proofs.RegularLemmas.{asking_view}
 use Rattle.fancy_regex_linear.proofs.RegularAnswerLemmas.{tried, first_span_by_ends}
 use Rattle.fancy_regex_linear.proofs.RegularStateLemmas.{first_is_final, does_by}
+use Rattle.fancy_regex_regular.specs.Regulars.{ends_from, rules_at}
 use Rattle.fancy_regex_regular.specs.Starts.{last_start}
+use Rattle.fancy_regex_regular.proofs.AskedLemmas.{is_asked, tried_all}
+use Rattle.fancy_regex_regular.proofs.ContinueLemmas.{IsPlaceFor}
 
 -- the first of the starts that has a way, with the end of that
 module _ (f : ℕ → Option ℕ) where
@@ -60,13 +62,13 @@ module _ (text : List ℕ) (input : RunInput) where
 
 -- What the states of a pattern do in a text: where the first start that has a way begins and ends is the match.
 pub record IsSearched (unicode : Bool) (states : List State) (entry : ℕ) (matchers : List CharClassMatcher) (pattern : Pattern)
-    (text : List ℕ) (input : RunInput) : Type 0 where
+    (text : List ℕ) (input : RunInput) (place : Option ℕ) : Type 0 where
   pub view : View
   pub go : ℕ → Continuation
-  pub does : DoWhat view (length text) input.range.end states go
-  pub shows : ShowsAll matchers (rules_for unicode false input) text (text_view view)
+  pub does : DoWhat view (length text) (ends_from 0 input.range.end) states go
+  pub shows : ShowsAll matchers (rules_at unicode input place) text (text_view view)
   pub first : view.longest ≡ false
-  pub explains : Explains matchers (rules_for unicode false input) input.range.end states text (text_view view) (ways_of go)
+  pub explains : Explains matchers (rules_at unicode input place) (ends_from 0 input.range.end) states text (text_view view) (ways_of go)
   pub means : (regular : IsRegular pattern.tree) (p : ℕ) → p ≤ length text
       → (go entry p).answer ≡ tried unicode text input pattern regular p
   pub first_is : earliest ((ways_of go).end entry) (boundaries text input.first (last_start input))
@@ -74,31 +76,29 @@ pub record IsSearched (unicode : Bool) (states : List State) (entry : ℕ) (matc
 
 module _ (unicode : Bool) (states : List State) (entry : ℕ) (matchers : List CharClassMatcher) (pattern : Pattern)
     (is : AreRegularStates unicode states entry matchers pattern) (text : List ℕ) (input : RunInput) where
-  pub is_searched : IsUtf8 text → IsCharBoundary text input.first → input.first ≤ input.range.end → input.range.end ≤ length text
-      → IsSearched unicode states entry matchers pattern text input
-  is_searched u b below fits =
-      let re = re_of unicode pattern.groups pattern.first_group 0 pattern.tree in
-      let view = asking_view (setting_for unicode text input) (classes pattern.tree) in
-      let stop = input.range.end in
-      let d = does_by states entry re is.sound is.program view (length text) stop refl in
-      let final = first_is_final states entry re is.sound is.program in
-      let shows = shows_all unicode false text input matchers (classes pattern.tree) is.matchers_are u in
+  pub is_searched : (place : Option ℕ) → IsPlaceFor place input states → IsUtf8 text → IsCharBoundary text input.first
+      → input.first ≤ input.range.end → input.range.end ≤ length text → IsSearched unicode states entry matchers pattern text input place
+  is_searched place is_place u b below fits =
+      let asked = is_asked unicode states entry matchers pattern is text input place 0 is_place u in
+      let means : (regular : IsRegular pattern.tree) (p : ℕ) → p ≤ length text
+      → (asked.go entry p).answer ≡ tried unicode text input pattern regular p =
+      λ regular p h. asked.means regular p h ∙ tried_all unicode text input pattern regular p h in
       record {
-        view = view;
-        go = d.go;
-        does = record { zero = d.zero_is; final = final; agree = d.agree };
-        shows = shows;
-        first = refl;
-        means = λ regular p h. ap (λ r. r.answer) (d.means p h);
-        explains = explains_of matchers (rules_for unicode false input) stop text view d.go refl shows states d.zero_is final d.agree;
+        view = asked.view;
+        go = asked.go;
+        does = asked.does;
+        shows = asked.shows;
+        first = asked.first;
+        means = means;
+        explains = asked.explains;
         first_is =
-            earliest_is ((ways_of d.go).end entry) (boundaries text input.first (last_start input))
-            ∙ ap (first_some (span_from ((ways_of d.go).end entry))) (sym (starts_are text input unicode pattern b below))
-            ∙ sym (first_span_by_ends unicode text input pattern is.regular ((ways_of d.go).end entry) (λ p h. ap answer_end (d.means p h)) fits);
+            earliest_is ((ways_of asked.go).end entry) (boundaries text input.first (last_start input))
+            ∙ ap (first_some (span_from ((ways_of asked.go).end entry))) (sym (starts_are text input unicode pattern b below))
+            ∙ sym (first_span_by_ends unicode text input pattern is.regular ((ways_of asked.go).end entry) (λ p h. ap (option_map (λ t. t.end)) (means is.regular p h)) fits);
       }
 
   -- a search that begins past its range has no starts
-  pub none_past : input.range.end < input.first
-      → None ≡ option_map span_of_match (first_match (setting_for unicode text input) pattern (search_for false input))
+  pub none_past : (longest : Bool) → input.range.end < input.first
+      → None ≡ option_map span_of_match (first_match (setting_for unicode text input) pattern (search_for longest input))
   unfolding first_match
-  none_past past = rw (lt-ltb input.range.end input.first past) refl
+  none_past longest past = rw (lt-ltb input.range.end input.first past) refl

@@ -1,7 +1,7 @@
 -- The states of a regular pattern weigh at most twice as much as its tree, and a search looks at the text accordingly.
 use Rattle.std.proofs.Common.{◌≡◌, ◌≢◌, ℕ, ◌+◌, ◌*◌, ◌-◌, ◌<◌, ◌≤◌, max, Bool, true, false, cond, not, List, [], ◌∷◌, length, Option, Some, None, if◌then◌else◌, refl, ap, arith}
 use Rattle.std.proofs.Math.Nat.{mul-le-mul_left}
-use Rattle.fancy_regex_tree.specs.Tree.{Tree, Trees, empty, any, assertion, general_newline, literal, concat, alt, group, look_around, repeat, delegate, atomic_group, conditional, verb, define_group, no_trees, more_trees}
+use Rattle.fancy_regex_tree.specs.Tree.{Tree, Trees, empty, any, assertion, general_newline, literal, concat, alt, group, look_around, repeat, delegate, atomic_group, conditional, verb, continue, define_group, no_trees, more_trees}
 use Rattle.fancy_regex_tree.specs.declared.expr.Assertion.{Assertion}
 use Rattle.fancy_regex_tree.specs.declared.expr.Assertion.TheVariants.{EndTextIgnoreTrailingNewlines}
 use Rattle.fancy_regex_tree.specs.declared.expr.LookAround.{LookAround}
@@ -119,6 +119,7 @@ module _ (unicode : Bool) (groups : List Tree) where
     regular_light n k (repeat t lo hi greedy) p =
         out_light (has_no_iteration lo hi) _ _ (repeat_light (is_unbounded hi) (may_be_empty groups t) lo hi _ _ (regular_light n k t p))
     regular_light n k (verb v) p = omega arith
+    regular_light n k continue p = omega arith
     regular_light n k _ p = absurd p
 
     regular_row : (n k : ℕ) (ts : Trees) → AreRegular ts → weight (row_of unicode groups n k ts) ≤ 2 * state_weights groups ts
@@ -159,6 +160,7 @@ module _ (unicode : Bool) (groups : List Tree) where
     around_light n k how (conditional c a b) p light = asking_light unicode groups n k how (conditional c a b) refl light
     around_light n k how (define_group t) p light = asking_light unicode groups n k how (define_group t) refl light
     around_light n k how (verb v) p light = asking_light unicode groups n k how (verb v) refl light
+    around_light n k how continue p light = asking_light unicode groups n k how continue refl light
     around_light n k how (repeat t lo hi greedy) p light = asking_light unicode groups n k how (repeat t lo hi greedy) refl light
     around_light n k how _ p light = absurd p
 

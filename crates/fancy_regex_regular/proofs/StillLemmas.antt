@@ -2,7 +2,7 @@
 use Rattle.std.proofs.Common.{◌≡◌, ◌∙◌, ℕ, zero, suc, ◌+◌, ◌-◌, ◌<◌, Bool, true, false, not, ◌&&◌, List, [], ◌∷◌, ◌++◌, length, get_or, Option, Some, None, if◌then◌else◌, refl, sym, ap, subst, arith}
 use Rattle.std.proofs.lemmas.Bool.{eqb-true}
 use Rattle.std.specs.Prelude.{slice_set, ◌==◌}
-use Rattle.fancy_regex_tree.specs.Tree.{Tree, Trees, empty, any, assertion, general_newline, literal, concat, alt, group, look_around, repeat, delegate, atomic_group, conditional, verb, define_group, no_trees, more_trees}
+use Rattle.fancy_regex_tree.specs.Tree.{Tree, Trees, empty, any, assertion, general_newline, literal, concat, alt, group, look_around, repeat, delegate, atomic_group, conditional, verb, continue, define_group, no_trees, more_trees}
 use Rattle.fancy_regex_tree.specs.declared.expr.Assertion.{Assertion}
 use Rattle.fancy_regex_tree.specs.declared.expr.Assertion.TheVariants.{EndTextIgnoreTrailingNewlines}
 use Rattle.fancy_regex_tree.specs.declared.expr.LookAround.{LookAround}
@@ -300,6 +300,7 @@ module _ (unicode : Bool) (groups : List Tree) where
     )
     still_tree n k (define_group t) p none = tt
     still_tree n k (verb v) p none = tt
+    still_tree n k continue p none = tt
     still_tree n k _ p none = absurd p
 
     still_row : (n k : ℕ) (ts : Trees) → AreRegular ts → each_steps_in groups ts ≡ 0 → NoSteps (row_of unicode groups n k ts)
@@ -368,6 +369,10 @@ module _ (unicode : Bool) (groups : List Tree) where
     still_around n k L.LookAheadNeg (verb v) p body inside none = (refl, body)
     still_around n k L.LookBehind (verb v) p body inside none = (none, body)
     still_around n k L.LookBehindNeg (verb v) p body inside none = (none, body)
+    still_around n k L.LookAhead continue p body inside none = (refl, body)
+    still_around n k L.LookAheadNeg continue p body inside none = (refl, body)
+    still_around n k L.LookBehind continue p body inside none = (none, body)
+    still_around n k L.LookBehindNeg continue p body inside none = (none, body)
     still_around n k L.LookAhead (repeat t lo hi greedy) p body inside none = (refl, body)
     still_around n k L.LookAheadNeg (repeat t lo hi greedy) p body inside none = (refl, body)
     still_around n k L.LookBehind (repeat t lo hi greedy) p body inside none = (none, body)

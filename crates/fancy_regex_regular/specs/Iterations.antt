@@ -8,7 +8,7 @@ use Rattle.fancy_regex_parts.specs.Find.{tried}
 use Rattle.fancy_regex_parts.specs.Tables.{known_cost, table_weight}
 use Rattle.fancy_regex_parts.specs.declared.memory.PartMemory.{PartMemory}
 use Rattle.fancy_regex_regular.specs.Inputs.{Serves}
-use Rattle.fancy_regex_regular.specs.Regulars.{IsRegularOf, lowest_asked}
+use Rattle.fancy_regex_regular.specs.Regulars.{IsRegularOf, continue_place, lowest_asked}
 use Rattle.fancy_regex_regular.specs.Starts.{last_start}
 use Rattle.fancy_regex_regular.specs.Weights.{tree_state_weight}
 use Rattle.fancy_regex_regular.specs.declared.memory.Kept.{Kept}
@@ -30,7 +30,7 @@ paid_before regular input memory = paid_in regular input memory.parts memory.kep
 -- nothing is kept, or it serves a search with this input
 abbrev pub MayServe : Regular → Option Kept → RunInput → Type 0
 MayServe regular None input = Unit {0}
-MayServe regular (Some kept) input = Serves kept input (lowest_asked regular input)
+MayServe regular (Some kept) input = Serves kept input (continue_place regular input) (lowest_asked regular input)
 
 -- the looks of a search of an iteration that found this
 abbrev pub LooksOn : Regular → RunInput → RegularMemory → RegularMemory → ℕ → ℕ → Option (ℕ × ℕ) → Type 0

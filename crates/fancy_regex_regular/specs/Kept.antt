@@ -12,6 +12,7 @@ use Rattle.fancy_regex_parts.specs.declared.recall.Recall.{Recall}
 use Rattle.fancy_regex_parts.specs.declared.memory.PartMemory.{PartMemory}
 use Rattle.fancy_regex_parts.specs.declared.step.PartContext.{PartContext}
 use Rattle.fancy_regex_regular.specs.Inputs.{IsOfInput}
+use Rattle.fancy_regex_regular.specs.Regulars.{continue_place, ends_from}
 use Rattle.fancy_regex_regular.specs.declared.memory.Kept.{Kept}
 use Rattle.fancy_regex_regular.specs.declared.memory.RegularMemory.{RegularMemory}
 use Rattle.fancy_regex_regular.specs.declared.regular.Regular.{Regular}
@@ -23,6 +24,7 @@ kept_rules regular kept = record {
   no_start_text = kept.no_start_text;
   no_end_text = kept.no_end_text;
   longest = false;
+  continue_at = kept.continue_at;
 }
 
 -- all that is known of pairs is true
@@ -38,7 +40,7 @@ pub record IsTrueFor (regular : Regular) (text : List ℕ) (parts : PartMemory) 
   pub rows : parts.recall.rows ≤ length text - parts.recall.base + 1
   pub ends : EndsWithin text parts.recall.base parts.recall
   pub remembers : (view : View) (ways : Ways)
-      → Explains regular.matchers.items (kept_rules regular kept) kept.stop regular.table.states.items text view ways
+      → Explains regular.matchers.items (kept_rules regular kept) (ends_from 0 kept.stop) regular.table.states.items text view ways
       → AreTrue ways regular.table.heads.items parts.recall
 
 -- what the memory keeps, if it keeps anything, is true of this pattern and this text
@@ -46,9 +48,9 @@ abbrev pub IsKeptOf : Regular → List ℕ → RegularMemory → Type 0
 IsKeptOf regular text memory = IfSome memory.kept (IsTrueFor regular text memory.parts)
 
 -- the memory can be asked in a search with this input
-pub record IsReady (context : PartContext) (text : List ℕ) (input : RunInput) (memory : RegularMemory) : Type 0 where
+pub record IsReady (regular : Regular) (context : PartContext) (text : List ℕ) (input : RunInput) (memory : RegularMemory) : Type 0 where
   pub low : memory.parts.recall.base ≤ lowest_of context.table.now context.entry input.first
   pub stack : vec_len memory.parts.stack ≡ 0
   pub of_text : IsOfText context text memory.parts.recall
   pub remembers : (view : View) (ways : Ways) → HasWays context text view ways → IsTrueOf context ways memory.parts.recall
-  pub of_input : IfSome memory.kept (λ kept. (memory.parts.recall.base ≡ kept.first) × IsOfInput kept input)
+  pub of_input : IfSome memory.kept (λ kept. (memory.parts.recall.base ≡ kept.first) × IsOfInput kept input (continue_place regular input))

@@ -1,7 +1,9 @@
 pub mod TableProps
+pub mod Continues
 pub mod Weights
 pub mod Starts
 pub mod Regulars
+pub mod Ends
 pub mod Inputs
 pub mod Kept
 pub mod KeptProps

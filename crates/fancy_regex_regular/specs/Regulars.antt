@@ -1,11 +1,13 @@
 -- Which pattern a regular one is of, and what its searches answer.
-use Rattle.std.specs.Prelude.{◌≡◌, ◌+◌, ◌-◌, ◌*◌, ◌≤◌, ℕ, false, not, List, Option, length, option_map, if◌then◌else◌, ◌==◌}
+use Rattle.std.specs.Prelude.{◌≡◌, ◌+◌, ◌-◌, ◌*◌, ◌≤◌, ℕ, Bool, false, not, List, Option, None, length, option_map, if◌then◌else◌, ◌==◌}
 use Rattle.fancy_regex_meaning.specs.Groups.{Pattern}
 use Rattle.fancy_regex_meaning.specs.Searches.{first_match}
 use Rattle.fancy_regex_class.specs.RunInputs.{setting_for, search_for, match_slots}
 use Rattle.fancy_regex_class.specs.declared.input.RunInput.{RunInput}
+use Rattle.fancy_regex_states.specs.declared.rules.Rules.{Rules}
 use Rattle.fancy_regex_parts.specs.Find.{failed_starts}
 use Rattle.fancy_regex_parts.specs.Tables.{lowest_of}
+use Rattle.fancy_regex_parts.specs.declared.step.EndRange.{EndRange}
 use Rattle.fancy_regex_parts.specs.declared.step.PartContext.{PartContext}
 use Rattle.fancy_regex_linear.specs.Easy.{rules_for}
 use Rattle.fancy_regex_linear.specs.EasyPatterns.{span_of_match}
@@ -20,23 +22,42 @@ pub record IsRegularOf (regular : Regular) (pattern : Pattern) : Type 0 where
   pub groups : regular.groups ≡ length pattern.groups
   pub whole : regular.whole ≡ not (pattern.first_group == 0)
 
--- what a search of this pattern reads and does not change
-pub record IsContextOf (regular : Regular) (input : RunInput) (context : PartContext) : Type 0 where
+-- where `\G` holds in a search with this input, for a pattern that asks for it
+abbrev pub continue_place : Regular → RunInput → Option ℕ
+continue_place regular input = if regular.continues then input.continue_at else None
+
+-- the flags of a search; a pattern that does not ask for `\G` has no place of it
+abbrev pub rules_at : Bool → RunInput → Option ℕ → Rules
+rules_at unicode input place = record (rules_for unicode false input) { continue_at = place }
+
+-- the places where a match of a search may end, from this one on
+abbrev pub ends_from : ℕ → ℕ → EndRange
+ends_from least stop = record { least = least; most = stop }
+
+-- what a search of this pattern reads and does not change, where a match has to end at this place or later
+pub record IsContextOf (regular : Regular) (input : RunInput) (least : ℕ) (context : PartContext) : Type 0 where
   pub table_is : context.table.now ≡ regular.table
   pub matchers_are : context.matchers.now ≡ regular.matchers.items
-  pub rules_are : context.rules ≡ rules_for regular.unicode false input
+  pub rules_are : context.rules ≡ rules_at regular.unicode input (continue_place regular input)
   pub entry_is : context.entry ≡ regular.entry
-  pub stop_is : context.stop ≡ input.range.end
+  pub range_is : context.range ≡ ends_from least input.range.end
 
--- the span that was found is that of the match of the definitions, of this text and input
-abbrev pub IsSpan : Regular → List ℕ → RunInput → Option (ℕ × ℕ) → Type 0
-IsSpan regular text input found = (pattern : Pattern) → IsRegularOf regular pattern
-    → found ≡ option_map span_of_match (first_match (setting_for regular.unicode text input) pattern (search_for false input))
+-- the span that was found is that of the match of the definitions, of this text and input: of the first, or the longest
+abbrev pub IsSpanOf : Bool → Regular → List ℕ → RunInput → Option (ℕ × ℕ) → Type 0
+IsSpanOf longest regular text input found = (pattern : Pattern) → IsRegularOf regular pattern
+    → found ≡ option_map span_of_match (first_match (setting_for regular.unicode text input) pattern (search_for longest input))
 
 -- the slots that were found are those of that match
+abbrev pub IsSlotsOf : Bool → Regular → List ℕ → RunInput → Option (List ℕ) → Type 0
+IsSlotsOf longest regular text input found = (pattern : Pattern) → IsRegularOf regular pattern
+    → found ≡ option_map (match_slots pattern) (first_match (setting_for regular.unicode text input) pattern (search_for longest input))
+
+-- the same of the match that is wanted
+abbrev pub IsSpan : Regular → List ℕ → RunInput → Option (ℕ × ℕ) → Type 0
+IsSpan regular text input found = IsSpanOf regular.longest regular text input found
+
 abbrev pub IsSlots : Regular → List ℕ → RunInput → Option (List ℕ) → Type 0
-IsSlots regular text input found = (pattern : Pattern) → IsRegularOf regular pattern
-    → found ≡ option_map (match_slots pattern) (first_match (setting_for regular.unicode text input) pattern (search_for false input))
+IsSlots regular text input found = IsSlotsOf regular.longest regular text input found
 
 -- A search looks at the text at most four times as often as the pattern weighs at each place from this one to the end of the text, since
 -- look-aheads see past the range. `\R` weighs 16 here, `\Z` 7, and a conditional one more than elsewhere.

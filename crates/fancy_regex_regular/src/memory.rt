@@ -12,6 +12,8 @@ use std::alloc::Global;
 pub struct RegularMemory {
     /// What questions about parts have found out.
     pub(crate) parts: PartMemory,
+    /// What questions for a longer match have found out.
+    pub(crate) farther: PartMemory,
     /// Where the walk along a match has been, and what it has yet to do.
     pub(crate) walked: WalkMemory,
     /// What the parts' memory is of; `None` where no later search may use it.
@@ -29,30 +31,36 @@ pub struct Kept {
     no_start_text: bool,
     /// Whether the end-of-text assertion fails at the end of the text.
     no_end_text: bool,
+    /// Where `\G` holds; `None` also for a pattern that does not ask for it.
+    continue_at: Option<usize>,
 }
 
 impl Kept {
-    /// That of the parts that a search with this input asks, where `lowest` is the least byte offset that it asks about.
-    pub(crate) fn of(input: &RunInput, lowest: usize) -> Kept
+    /// That of the parts that a search with this input asks, where `lowest` is the least byte offset that it asks about. `continue_at` is
+    /// where `\G` holds, for a pattern that asks for it.
+    pub(crate) fn of(input: &RunInput, continue_at: Option<usize>, lowest: usize) -> Kept
         ensures first { result.first ≡ lowest }
-        ensures input { IsOfInput result input.now }
+        ensures input { IsOfInput result input.now continue_at }
     {
         Kept {
             first: lowest,
             stop: input.range.end,
             no_start_text: input.no_start_text,
             no_end_text: input.no_end_text,
+            continue_at,
         }
     }
 
-    /// Whether a search with this input asks the same parts, at byte offsets that the memory may be asked about, from `lowest` on.
-    fn serves(&self, input: &RunInput, lowest: usize) -> bool
-        ensures exact { result ≡ true ↔ Serves self.now input.now lowest }
+    /// Whether a search with this input asks the same parts, with the same place of `\G`, at byte offsets that the memory may be asked
+    /// about, from `lowest` on.
+    fn serves(&self, input: &RunInput, continue_at: Option<usize>, lowest: usize) -> bool
+        ensures exact { result ≡ true ↔ Serves self.now input.now continue_at lowest }
     {
         self.first <= lowest
             && self.stop == input.range.end
             && self.no_start_text == input.no_start_text
             && self.no_end_text == input.no_end_text
+            && self.continue_at == continue_at
     }
 }
 
@@ -61,6 +69,7 @@ impl Drop for RegularMemory {
     fn drop(self) {
         let RegularMemory {
             parts: _parts,
+            farther: _farther,
             walked: _walked,
             kept: _kept,
         } = self;
@@ -76,6 +85,7 @@ impl RegularMemory {
     {
         RegularMemory {
             parts: PartMemory::new(alloc),
+            farther: PartMemory::new(alloc),
             walked: WalkMemory::new(alloc),
             kept: None,
         }
@@ -89,14 +99,17 @@ impl RegularMemory {
     }
 
     /// Whether a search with this input, which asks about no byte offset before `lowest`, may use what is kept. It may not where that is
-    /// of places before `lowest` alone: then nothing is lost, and the memory begins there.
-    pub(crate) fn serves(&self, input: &RunInput, lowest: usize) -> bool
-        ensures serves { result ≡ true → MemoryServes self.now.kept input.now lowest }
-        ensures past { result ≡ false → MemoryServes self.now.kept input.now lowest
+    /// of places before `lowest` alone: then nothing is lost, and the memory begins there. `continue_at` is where `\G` holds, for a
+    /// pattern that asks for it.
+    pub(crate) fn serves(&self, input: &RunInput, continue_at: Option<usize>, lowest: usize) -> bool
+        ensures serves { result ≡ true → MemoryServes self.now.kept input.now continue_at lowest }
+        ensures past { result ≡ false → MemoryServes self.now.kept input.now continue_at lowest
             → self.now.parts.recall.rows ≤ lowest - self.now.parts.recall.base }
     {
         match &self.kept {
-            Some(kept) => kept.serves(input, lowest) && !self.parts.ends_before(lowest),
+            Some(kept) => {
+                kept.serves(input, continue_at, lowest) && !self.parts.ends_before(lowest)
+            }
             None => false,
         }
     }

@@ -1,36 +1,44 @@
 //! Compiled regular patterns, and their searches.
 
-ghost use Rattle.std.specs.Prelude.{◌≡◌, ◌+◌, ◌-◌, ◌*◌, ◌^◌, ◌<◌, ◌≤◌, ◌↔◌, Bool, List, ℕ, None, true, length, min, replicate, IfErr, IfOk, IfSome, IsSome, OnOk, IsCharBoundary, option_map, slice_set};
+ghost use Rattle.std.specs.Prelude.{◌≡◌, ◌+◌, ◌-◌, ◌*◌, ◌^◌, ◌<◌, ◌≤◌, ◌↔◌, Bool, List, ℕ, None, true, false, length, min, replicate, IfErr, IfOk, IfSome, IsSome, OnOk, IsCharBoundary, option_map, slice_set};
 ghost use Rattle.fancy_regex_tree.specs.Tree.{Tree, tree_of};
 ghost use Rattle.fancy_regex_linear.specs.Easy.{found_slots, found_at};
 ghost use Rattle.fancy_regex_parts.specs.Tables.{IsTable};
-ghost use Rattle.fancy_regex_regular.specs.TableProps.{table_prop};
+ghost use Rattle.fancy_regex_regular.specs.Continues.{AskNoPlace};
+ghost use Rattle.fancy_regex_regular.specs.TableProps.{place_prop, table_prop};
 ghost use Rattle.fancy_regex_regular.specs.Starts.{last_start as last_start_of};
 
+use crate::continues::ask_for_place;
+use crate::longest::longest_end;
 use crate::memory::{Kept, RegularMemory};
 use fancy_regex_class::{CharClassMatcher, Counted, RunInput, Steps};
 use fancy_regex_info::{CompileError, CompileOptions, Info};
 use fancy_regex_linear::RegularStates;
-use fancy_regex_parts::{PartContext, PartTable, find, walk};
+use fancy_regex_parts::{EndRange, PartContext, PartTable, find, walk};
 use fancy_regex_states::Rules;
 use std::alloc::{AllocError, Global};
 
 /// A compiled pattern whose look-arounds and atomic groups are parts: states that are asked at a place, whose answers are remembered.
 pub struct Regular {
     /// The states of the pattern and of its parts.
-    table: PartTable,
+    pub(crate) table: PartTable,
     /// The state at which an attempt begins.
-    entry: usize,
+    pub(crate) entry: usize,
     matchers: Vec<CharClassMatcher>,
     /// The number of capture groups in an answer.
     groups: usize,
     /// Whether group 0 is the whole match.
     whole: bool,
     unicode: bool,
+    /// Whether the longest match is wanted, not the first.
+    pub(crate) longest: bool,
     /// Whether a part that has to have a way may write a group, so that a walk may go further than the match does.
     asks_for_groups: bool,
+    /// Whether a state is `\G`, so that what searches find out depends on where it holds.
+    continues: bool,
     ghost right: { IsTable table } by { table_prop table },
     ghost inside: { entry < length table.states.items },
+    ghost placeless: { continues ≡ false → AskNoPlace table.states.items } by { place_prop continues table },
 }
 
 // Written, not derived: so a crate in which such a value may be dropped uses this proof, and has none to make of each type inside.
@@ -43,7 +51,9 @@ impl Drop for Regular {
             groups: _groups,
             whole: _whole,
             unicode: _unicode,
+            longest: _longest,
             asks_for_groups: _asks_for_groups,
+            continues: _continues,
         } = self;
     }
 }
@@ -52,7 +62,7 @@ impl Regular {
     ghost use Rattle.fancy_regex_linear.specs.Plain.{classes};
     ghost use Rattle.fancy_regex_linear.specs.Refusals.{IsClassCause};
     ghost use Rattle.fancy_regex_regular.specs.Supported.{IsSupported};
-    ghost use Rattle.fancy_regex_regular.specs.Regulars.{IsRegularOf, IsContextOf, IsSpan, IsSlots, LooksFrom, LooksForGroupsFrom, LooksAtMost, lowest_asked, starts_without};
+    ghost use Rattle.fancy_regex_regular.specs.Regulars.{IsRegularOf, IsContextOf, IsSpan, IsSpanOf, IsSlots, IsSlotsOf, LooksFrom, LooksForGroupsFrom, LooksAtMost, continue_place, lowest_asked, starts_without};
     ghost use Rattle.fancy_regex_regular.specs.Kept.{IsKeptOf, IsReady};
     ghost use Rattle.fancy_regex_regular.specs.Inputs.{MemoryServes};
     ghost use Rattle.fancy_regex_regular.specs.Iterations.{LooksOn, MayServe, IsPaidWithin, paid_before, paid_by};
@@ -61,16 +71,12 @@ impl Regular {
     ghost use Rattle.fancy_regex_info.specs.declared.info.Info.{out-Info};
     ghost use Rattle.fancy_regex_info.specs.Views.{pattern_in};
 
-    /// Whether an analyzed pattern becomes states with parts under these options. The first match is wanted then, not the longest, and the
-    /// weight is at most 4,000. The pattern has no more than characters, `\R`, `(*FAIL)`, assertions, definitions, and look-arounds,
-    /// groups, atomic groups, conditionals, alternations and repeats of these.
-    pub fn supports(info: &Info<'_>, options: &CompileOptions) -> bool
+    /// Whether an analyzed pattern becomes states with parts. Its weight is at most 4,000 then, and it has no more than characters, `\R`,
+    /// `\G`, `(*FAIL)`, assertions, definitions, and look-arounds, groups, atomic groups, conditionals, alternations and repeats of these.
+    pub fn supports(info: &Info<'_>) -> bool
         ensures exact { (explicit : Bool) (t : Tree) → info_of info.now ≡ analysis explicit t
-            → (result ≡ true ↔ IsSupported options.now.leftmost_longest (pattern_in explicit t)) }
+            → (result ≡ true ↔ IsSupported (pattern_in explicit t)) }
     {
-        if options.leftmost_longest {
-            return false;
-        }
         RegularStates::are_made_for(info)
     }
 
@@ -83,14 +89,15 @@ impl Regular {
     ) -> Result<Option<Regular>, CompileError>
         ensures made { IfOk result (λ found. IfSome found (λ regular. (explicit : Bool) (t : Tree) → info_of info.now ≡ analysis explicit t
             → IsRegularOf regular (pattern_in explicit t))) }
-        ensures options { IfOk result (λ found. IfSome found (λ regular. regular.unicode ≡ options.now.unicode)) }
+        ensures options { IfOk result (λ found. IfSome found (λ regular. (regular.unicode ≡ options.now.unicode)
+            × (regular.longest ≡ options.now.leftmost_longest))) }
         ensures exact { IfOk result (λ found. (explicit : Bool) (t : Tree) → info_of info.now ≡ analysis explicit t
-            → (IsSome found ↔ IsSupported options.now.leftmost_longest (pattern_in explicit t))) }
+            → (IsSome found ↔ IsSupported (pattern_in explicit t))) }
         ensures refused { IfErr result (IsClassCause options.now.unicode (classes (tree_of (out-Info info.now).expr.now))) }
         ensures only { IfErr result (λ _. (explicit : Bool) (t : Tree) → info_of info.now ≡ analysis explicit t
-            → IsSupported options.now.leftmost_longest (pattern_in explicit t)) }
+            → IsSupported (pattern_in explicit t)) }
     {
-        if !Regular::supports(info, options) {
+        if !Regular::supports(info) {
             return Ok(None);
         }
         let found = RegularStates::new(alloc, info, options)?;
@@ -105,16 +112,19 @@ impl Regular {
         if entry >= states.len() {
             return Ok(None);
         }
+        let continues = ask_for_place(&states);
         let built = PartTable::new(alloc, states)?;
         match built {
             Some(table) => Ok(Some(Regular {
                 asks_for_groups: table.asks_for_slots(),
+                continues,
                 table,
                 entry,
                 matchers,
                 groups: info.end_group(),
                 whole: info.start_group() != 0,
                 unicode: options.unicode,
+                longest: options.leftmost_longest,
             })),
             None => Ok(None),
         }
@@ -126,10 +136,10 @@ impl Regular {
         self.asks_for_groups
     }
 
-    /// Searches the text, and answers the capture groups of the first match: two byte offsets for each group, both `usize::MAX` if the
-    /// group is unset; `None` if there is no match. The memory may have been used by other searches before, of this pattern or another:
-    /// the answer is the same. No clause says how often the search looks at the text, nor what it allocates. The error is want of memory;
-    /// the memory may be used again.
+    /// Searches the text, and answers the capture groups of the match, the first or the longest: two byte offsets for each group, both
+    /// `usize::MAX` if the group is unset; `None` if there is no match. The memory may have been used by other searches before, of this
+    /// pattern or another: the answer is the same. No clause says how often the search looks at the text, nor what it allocates. The error
+    /// is want of memory; the memory may be used again.
     pub fn search_in(
         &self,
         alloc: Global,
@@ -147,8 +157,8 @@ impl Regular {
 
     /// Searches a text as `search_in`, where the memory, if it keeps anything, keeps what searches of this pattern in this text have found
     /// out: that is not looked for again, and what this search finds out is kept too, also where memory runs out. `steps` counts the looks
-    /// at the text: where memory suffices, at most twelve for the square of the pattern's weight for each place from the memory's first one
-    /// to the end of the text.
+    /// at the text: where memory suffices and the first match is wanted, at most twelve for the square of the pattern's weight for each
+    /// place from the memory's first one to the end of the text.
     pub fn search_again(
         &self,
         alloc: Global,
@@ -161,6 +171,76 @@ impl Regular {
         requires range { input.now.range.end ≤ length text.now }
         requires kept { IsKeptOf self.now text.now memory.old }
         ensures answer { IfOk result (λ found. IsSlots self.now text.now input.now (option_map (λ v. v.items) found)) }
+        ensures at_most { self.now.longest ≡ false → OnOk result (input.now.first ≤ input.now.range.end
+            → LooksForGroupsFrom self.now text.now memory.new.parts.recall.base steps.old steps.new) }
+        ensures anew { memory.old.kept ≡ None → input.now.first ≤ input.now.range.end
+            → memory.new.parts.recall.base ≡ lowest_asked self.now input.now }
+        ensures counts { steps.old ≤ steps.new }
+        ensures kept { IsKeptOf self.now text.now memory.new }
+    {
+        if self.longest {
+            self.search_longest(alloc, text, input, steps, memory)
+        } else {
+            self.search_first(alloc, text, input, steps, memory)
+        }
+    }
+
+    /// The capture groups of the longest match, as `search_again`.
+    fn search_longest(
+        &self,
+        alloc: Global,
+        text: &str,
+        input: &RunInput,
+        steps: &mut Steps,
+        memory: &mut RegularMemory,
+    ) -> Result<Option<Vec<usize>>, AllocError>
+        requires first { IsCharBoundary text.now input.now.first }
+        requires range { input.now.range.end ≤ length text.now }
+        requires kept { IsKeptOf self.now text.now memory.old }
+        requires longest { self.now.longest ≡ true }
+        ensures answer { IfOk result (λ found. IsSlots self.now text.now input.now (option_map (λ v. v.items) found)) }
+        ensures anew { memory.old.kept ≡ None → input.now.first ≤ input.now.range.end
+            → memory.new.parts.recall.base ≡ lowest_asked self.now input.now }
+        ensures counts { steps.old ≤ steps.new }
+        ensures kept { IsKeptOf self.now text.now memory.new }
+    {
+        let found = self.find_span_again(text, input, steps, memory)?;
+        let Some((start, end)) = found else {
+            return Ok(None);
+        };
+        let mut written = unset_slots(alloc, self.groups)?;
+        let context = self.context(input, end);
+        memory
+            .farther
+            .restart(&context, self.table.lowest(self.entry, start));
+        // Read so that the proof knows that the counter is a `u64`, which no look lowers.
+        let _before = steps.count();
+        let mut looked = Counted::new(text, steps);
+        walk(
+            &context,
+            &mut looked,
+            &mut memory.farther,
+            &mut memory.walked,
+            start,
+            &mut written,
+        )?;
+        let places = self.places(written, start, end);
+        Ok(Some(places))
+    }
+
+    /// The capture groups of the first match, also where the longest is wanted, as `search_again`.
+    fn search_first(
+        &self,
+        alloc: Global,
+        text: &str,
+        input: &RunInput,
+        steps: &mut Steps,
+        memory: &mut RegularMemory,
+    ) -> Result<Option<Vec<usize>>, AllocError>
+        requires first { IsCharBoundary text.now input.now.first }
+        requires range { input.now.range.end ≤ length text.now }
+        requires kept { IsKeptOf self.now text.now memory.old }
+        ensures answer { IfOk result (λ found. IsSlotsOf false self.now text.now input.now (option_map (λ v. v.items) found)) }
         ensures at_most { OnOk result (input.now.first ≤ input.now.range.end
             → LooksForGroupsFrom self.now text.now memory.new.parts.recall.base steps.old steps.new) }
         ensures anew { memory.old.kept ≡ None → input.now.first ≤ input.now.range.end
@@ -173,7 +253,7 @@ impl Regular {
         }
         // Read so that the proof knows that the counter is a `u64`, which no look lowers.
         let _before = steps.count();
-        let context = self.context(input);
+        let context = self.context(input, 0);
         self.begin(&context, input, memory);
         let mut looked = Counted::new(text, steps);
         let last = last_start(input);
@@ -193,13 +273,13 @@ impl Regular {
         Ok(Some(self.places(slots, start, end)))
     }
 
-    /// Where the first match of a search starts and ends, as byte offsets; `None` if there is none. `steps` counts the looks at the text.
-    /// It never falls, and grows by at most four times the pattern's weight for each place from the first start to the end of the text,
-    /// and for four more before it for each character that look-behinds reach back, also where memory runs out; here `\R` weighs 16,
-    /// `\Z` 7 and a look-behind more by the characters that it steps back over, since they are several states. Where there is an answer
-    /// it grows by at least one for each start that has no match, up to the one that is found, unless it comes to the last `u64`. The
-    /// memory may have been used by other searches before, of this pattern or another. The error is want of memory; the memory may be
-    /// used again.
+    /// Where the match of a search, the first or the longest, starts and ends, as byte offsets; `None` if there is none. `steps` counts the
+    /// looks at the text. It never falls, and where the first match is wanted it grows by at most four times the pattern's weight for each
+    /// place from the first start to the end of the text, and for four more before it for each character that look-behinds reach back,
+    /// also where memory runs out; here `\R` weighs 16, `\Z` 7 and a look-behind more by the characters that it steps back over, since
+    /// they are several states. Where there is an answer it grows by at least one for each start that has no match, up to the one that is
+    /// found, unless it comes to the last `u64`. The memory may have been used by other searches before, of this pattern or another. The
+    /// error is want of memory; the memory may be used again.
     pub fn find_span_in(
         &self,
         text: &str,
@@ -210,7 +290,7 @@ impl Regular {
         requires first { IsCharBoundary text.now input.now.first }
         requires range { input.now.range.end ≤ length text.now }
         ensures answer { IfOk result (IsSpan self.now text.now input.now) }
-        ensures at_most { LooksAtMost self.now text.now input.now steps.old steps.new }
+        ensures at_most { self.now.longest ≡ false → LooksAtMost self.now text.now input.now steps.old steps.new }
         ensures at_least { IfOk result (λ found. input.now.first ≤ input.now.range.end
             → min (steps.old + starts_without text.now input.now found) (2 ^ 64 - 1) ≤ steps.new) }
         ensures counts { steps.old ≤ steps.new }
@@ -222,11 +302,12 @@ impl Regular {
         self.find_span_again(text, input, steps, memory)
     }
 
-    /// Where the first match starts and ends, as `find_span_in`, where the memory, if it keeps anything, keeps what searches of this
-    /// pattern in this text have found out: that is not looked for again, and what this search finds out is kept too, also where memory
-    /// runs out. So where memory suffices and each search of an iteration has the end and the flags of the one before and begins no
-    /// earlier, all of them together look at each place of the text at most as often as the states weigh, and once more than what is due
-    /// for the first state for each start (`shared`, `paid`, `serves`).
+    /// Where the match starts and ends, as `find_span_in`, where the memory, if it keeps anything, keeps what searches of this pattern in
+    /// this text have found out: that is not looked for again, and what this search finds out is kept too, also where memory runs out. Of a
+    /// longest match only what the search for its start finds out is kept. So where memory suffices, the first match is wanted and each
+    /// search of an iteration has the end and the flags of the one before and begins no earlier, and `\G` does not stand in the pattern or
+    /// holds where it did, all of them together look at each place of the text at most as often as the states weigh, and once more than
+    /// what is due for the first state for each start (`shared`, `paid`, `serves`).
     pub fn find_span_again(
         &self,
         text: &str,
@@ -239,6 +320,48 @@ impl Regular {
         requires kept { IsKeptOf self.now text.now memory.old }
         ensures answer { IfOk result (IsSpan self.now text.now input.now) }
         ensures kept { IsKeptOf self.now text.now memory.new }
+        ensures at_most { self.now.longest ≡ false → input.now.first ≤ input.now.range.end
+            → LooksFrom self.now text.now memory.new.parts.recall.base steps.old steps.new }
+        ensures anew { memory.old.kept ≡ None → input.now.first ≤ input.now.range.end
+            → memory.new.parts.recall.base ≡ lowest_asked self.now input.now }
+        ensures shared { IfOk result (λ found. self.now.longest ≡ false → input.now.first ≤ input.now.range.end
+            → LooksOn self.now input.now memory.old memory.new steps.old steps.new found) }
+        ensures paid { input.now.first ≤ input.now.range.end → IsPaidWithin self.now text.now memory.new.parts }
+        ensures serves { input.now.first ≤ input.now.range.end → MemoryServes memory.new.kept input.now
+            (continue_place self.now input.now) (lowest_asked self.now input.now) }
+        ensures at_least { IfOk result (λ found. input.now.first ≤ input.now.range.end
+            → min (steps.old + starts_without text.now input.now found) (2 ^ 64 - 1) ≤ steps.new) }
+        ensures counts { steps.old ≤ steps.new }
+        ensures start { IfOk result (λ found. IfSome found (λ span. IsCharBoundary text.now span.0)) }
+    {
+        let first = self.find_first(text, input, steps, memory)?;
+        let Some((start, end)) = first else {
+            return Ok(None);
+        };
+        if !self.longest {
+            return Ok(Some((start, end)));
+        }
+        if end >= input.range.end {
+            return Ok(Some((start, end)));
+        }
+        let farther = &mut memory.farther;
+        let last = longest_end(self, text, input, steps, farther, start, end)?;
+        Ok(Some((start, last)))
+    }
+
+    /// Where the first match starts and ends, also where the longest is wanted, as `find_span_again`.
+    fn find_first(
+        &self,
+        text: &str,
+        input: &RunInput,
+        steps: &mut Steps,
+        memory: &mut RegularMemory,
+    ) -> Result<Option<(usize, usize)>, AllocError>
+        requires first { IsCharBoundary text.now input.now.first }
+        requires range { input.now.range.end ≤ length text.now }
+        requires kept { IsKeptOf self.now text.now memory.old }
+        ensures answer { IfOk result (IsSpanOf false self.now text.now input.now) }
+        ensures kept { IsKeptOf self.now text.now memory.new }
         ensures at_most { input.now.first ≤ input.now.range.end
             → LooksFrom self.now text.now memory.new.parts.recall.base steps.old steps.new }
         ensures anew { memory.old.kept ≡ None → input.now.first ≤ input.now.range.end
@@ -246,17 +369,19 @@ impl Regular {
         ensures shared { IfOk result (λ found. input.now.first ≤ input.now.range.end
             → LooksOn self.now input.now memory.old memory.new steps.old steps.new found) }
         ensures paid { input.now.first ≤ input.now.range.end → IsPaidWithin self.now text.now memory.new.parts }
-        ensures serves { input.now.first ≤ input.now.range.end → MemoryServes memory.new.kept input.now (lowest_asked self.now input.now) }
+        ensures serves { input.now.first ≤ input.now.range.end → MemoryServes memory.new.kept input.now
+            (continue_place self.now input.now) (lowest_asked self.now input.now) }
         ensures at_least { IfOk result (λ found. input.now.first ≤ input.now.range.end
             → min (steps.old + starts_without text.now input.now found) (2 ^ 64 - 1) ≤ steps.new) }
         ensures counts { steps.old ≤ steps.new }
+        ensures start { IfOk result (λ found. IfSome found (λ span. IsCharBoundary text.now span.0)) }
     {
         if input.first > input.range.end {
             return Ok(None);
         }
         // Read so that the proof knows that the counter is a `u64`, which no look lowers.
         let _before = steps.count();
-        let context = self.context(input);
+        let context = self.context(input, 0);
         self.begin(&context, input, memory);
         let mut counted = Counted::new(text, steps);
         let span = find(
@@ -271,24 +396,37 @@ impl Regular {
 
     /// Makes the memory ready for a search with this input: it begins anew where what it keeps does not serve.
     fn begin(&self, context: &PartContext, input: &RunInput, memory: &mut RegularMemory)
-        requires { IsContextOf self.now input.now context.now }
-        ensures ready { (text : List ℕ) → IsKeptOf self.now text memory.old → IsReady context.now text input.now memory.new }
+        requires { IsContextOf self.now input.now 0 context.now }
+        ensures ready { (text : List ℕ) → IsKeptOf self.now text memory.old → IsReady self.now context.now text input.now memory.new }
         ensures anew { memory.old.kept ≡ None → memory.new.parts.recall.base ≡ lowest_asked self.now input.now }
         ensures paid { (text : List ℕ) → IsKeptOf self.now text memory.old → MayServe self.now memory.old.kept input.now
             → paid_before self.now input.now memory.old ≤ paid_by self.now memory.new.parts }
-        ensures serves { MemoryServes memory.new.kept input.now (lowest_asked self.now input.now) }
+        ensures serves { MemoryServes memory.new.kept input.now
+            (continue_place self.now input.now) (lowest_asked self.now input.now) }
     {
         let lowest = self.table.lowest(self.entry, input.first);
-        if memory.serves(input, lowest) {
+        let continue_at = self.continue_place(input);
+        if memory.serves(input, continue_at, lowest) {
             return;
         }
         memory.parts.restart(context, lowest);
-        memory.kept = Some(Kept::of(input, lowest));
+        memory.kept = Some(Kept::of(input, continue_at, lowest));
     }
 
-    /// What a search of this pattern reads and does not change.
-    fn context<'p>(&'p self, input: &RunInput) -> PartContext<'p>
-        ensures { IsContextOf self.now input.now result }
+    /// Where `\G` holds in a search with this input; `None` for a pattern that does not ask for it.
+    fn continue_place(&self, input: &RunInput) -> Option<usize>
+        ensures { result ≡ continue_place self.now input.now }
+    {
+        if self.continues {
+            input.continue_at
+        } else {
+            None
+        }
+    }
+
+    /// What a search of this pattern reads and does not change, where a match has to end at the byte offset `least` or later.
+    pub(crate) fn context<'p>(&'p self, input: &RunInput, least: usize) -> PartContext<'p>
+        ensures { IsContextOf self.now input.now least result }
     {
         PartContext {
             table: &self.table,
@@ -298,9 +436,13 @@ impl Regular {
                 no_start_text: input.no_start_text,
                 no_end_text: input.no_end_text,
                 longest: false,
+                continue_at: self.continue_place(input),
             },
             entry: self.entry,
-            stop: input.range.end,
+            range: EndRange {
+                least,
+                most: input.range.end,
+            },
         }
     }
 

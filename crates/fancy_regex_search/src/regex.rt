@@ -88,11 +88,11 @@ impl Regex {
     /// Whether no search of this regex meets a limit: if so, `Memory` is the only error of its searches.
     ///
     /// It is so where the option `find_not_empty` is off, in two cases. The pattern is plain: it has no more than characters, classes,
-    /// assertions but `\Z`, groups, alternations and repeats of these. Or the first match is wanted, not the longest, the pattern's weight
-    /// (about its length, with counted repeats written out) is at most 4,000, and it has besides no more than look-arounds, atomic groups,
-    /// conditionals whose condition is such a pattern, definitions, `\R`, `\Z`, half boundaries, starts of lines of Oniguruma mode and
-    /// `(*FAIL)`. So a pattern with a reference, a call, a condition on a group, `\K` or `\G` is not linear. The answer depends on the
-    /// pattern and its options alone, and on no text.
+    /// assertions but `\Z`, groups, alternations and repeats of these. Or the pattern's weight (about its length, with counted repeats
+    /// written out) is at most 4,000, and it has besides no more than look-arounds, atomic groups, conditionals whose condition is such a
+    /// pattern, definitions, `\R`, `\Z`, `\G`, half boundaries, starts of lines of Oniguruma mode and `(*FAIL)`. So a pattern with a
+    /// reference, a call, a condition on a group or `\K` outside of a definition is not linear. The answer depends on the pattern and its
+    /// options alone, and on no text. It is the same for the first match and for the longest.
     ///
     /// ```
     /// assert!(rt; Regex::new(alloc, r"\b(?>a+)b(?=c)")?.is_linear());

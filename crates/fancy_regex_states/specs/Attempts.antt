@@ -168,7 +168,7 @@ pub record Shows (matchers : List CharClassMatcher) (rules : Rules) (view : View
   pub has : (leaf : Leaf) → view.has leaf at ≡ is_some_and after (leaf_matches_char rules.unicode matchers leaf)
   pub next : view.next at ≡ at + unwrap_or (option_map len_utf8 after) 1
   pub back : view.back at ≡ option_map len_utf8 before
-  pub holds : (test : Test) → view.holds test at ≡ passes matchers rules test before after
+  pub holds : (test : Test) → view.holds test at ≡ passes matchers rules test at before after
   pub no_parts : view.has_parts ≡ false
 
 -- it does so of each boundary of the text

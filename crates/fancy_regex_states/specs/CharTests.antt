@@ -6,7 +6,7 @@ use Rattle.fancy_regex_class.specs.Classes.{in_class, folded}
 use Rattle.fancy_regex_states.specs.declared.atom.Leaf.{Leaf}
 use Rattle.fancy_regex_states.specs.declared.atom.Leaf.TheVariants.{Any, Char, Folded, Class}
 use Rattle.fancy_regex_states.specs.declared.atom.Test.{Test}
-use Rattle.fancy_regex_states.specs.declared.atom.Test.TheVariants.{StartText, EndText, StartLine, EndLine, WordBoundary, NotWordBoundary, LeftWordBoundary, RightWordBoundary, LeftWordHalfBoundary, RightWordHalfBoundary, StartLineOniguruma, Never, LookAhead, LookAheadNeg, LookBehind, LookBehindNeg}
+use Rattle.fancy_regex_states.specs.declared.atom.Test.TheVariants.{StartText, EndText, StartLine, EndLine, WordBoundary, NotWordBoundary, LeftWordBoundary, RightWordBoundary, LeftWordHalfBoundary, RightWordHalfBoundary, StartLineOniguruma, Never, Continue, LookAhead, LookAheadNeg, LookBehind, LookBehindNeg}
 use Rattle.fancy_regex_class.specs.declared.class.CharClassMatcher.{CharClassMatcher}
 use Rattle.fancy_regex_states.specs.declared.rules.Rules.{Rules}
 
@@ -32,29 +32,30 @@ is_char d o = is_some_and o (λ c. c == d)
 abbrev pub begins_line : Bool → Option ℕ → Option ℕ → Bool
 begins_line crlf before after = is_none before || is_char 10 before || (crlf && is_char 13 before && not (is_char 10 after))
 
--- whether the assertion holds between two characters
-abbrev pub passes : List CharClassMatcher → Rules → Test → Option ℕ → Option ℕ → Bool
-passes matchers rules StartText before after = is_none before && not rules.no_start_text
-passes matchers rules EndText before after = is_none after && not rules.no_end_text
-passes matchers rules (StartLine crlf) before after = begins_line crlf before after
-passes matchers rules (EndLine false) before after = is_none after || is_char 10 after
-passes matchers rules (EndLine true) before after =
+-- whether the assertion holds at a place between two characters
+abbrev pub passes : List CharClassMatcher → Rules → Test → ℕ → Option ℕ → Option ℕ → Bool
+passes matchers rules StartText at before after = is_none before && not rules.no_start_text
+passes matchers rules EndText at before after = is_none after && not rules.no_end_text
+passes matchers rules (StartLine crlf) at before after = begins_line crlf before after
+passes matchers rules (EndLine false) at before after = is_none after || is_char 10 after
+passes matchers rules (EndLine true) at before after =
     is_none after || is_char 13 after || (is_char 10 after && not (is_char 13 before))
-passes matchers rules WordBoundary before after =
+passes matchers rules WordBoundary at before after =
     not (is_some_and before (is_word_char rules.unicode)) && is_some_and after (is_word_char rules.unicode)
     || is_some_and before (is_word_char rules.unicode) && not (is_some_and after (is_word_char rules.unicode))
-passes matchers rules NotWordBoundary before after =
+passes matchers rules NotWordBoundary at before after =
     not (is_some_and before (is_word_char rules.unicode)) && not (is_some_and after (is_word_char rules.unicode))
     || is_some_and before (is_word_char rules.unicode) && is_some_and after (is_word_char rules.unicode)
-passes matchers rules LeftWordBoundary before after =
+passes matchers rules LeftWordBoundary at before after =
     not (is_some_and before (is_word_char rules.unicode)) && is_some_and after (is_word_char rules.unicode)
-passes matchers rules RightWordBoundary before after =
+passes matchers rules RightWordBoundary at before after =
     is_some_and before (is_word_char rules.unicode) && not (is_some_and after (is_word_char rules.unicode))
-passes matchers rules LeftWordHalfBoundary before after = not (is_some_and before (is_word_char rules.unicode))
-passes matchers rules RightWordHalfBoundary before after = not (is_some_and after (is_word_char rules.unicode))
-passes matchers rules (StartLineOniguruma crlf) before after = begins_line crlf before after && not (is_none after && is_char 10 before)
-passes matchers rules Never before after = false
-passes matchers rules (LookAhead leaf) before after = is_some_and after (leaf_matches_char rules.unicode matchers leaf)
-passes matchers rules (LookAheadNeg leaf) before after = not (is_some_and after (leaf_matches_char rules.unicode matchers leaf))
-passes matchers rules (LookBehind leaf) before after = is_some_and before (leaf_matches_char rules.unicode matchers leaf)
-passes matchers rules (LookBehindNeg leaf) before after = not (is_some_and before (leaf_matches_char rules.unicode matchers leaf))
+passes matchers rules LeftWordHalfBoundary at before after = not (is_some_and before (is_word_char rules.unicode))
+passes matchers rules RightWordHalfBoundary at before after = not (is_some_and after (is_word_char rules.unicode))
+passes matchers rules (StartLineOniguruma crlf) at before after = begins_line crlf before after && not (is_none after && is_char 10 before)
+passes matchers rules Never at before after = false
+passes matchers rules Continue at before after = is_some_and rules.continue_at (λ g. g == at)
+passes matchers rules (LookAhead leaf) at before after = is_some_and after (leaf_matches_char rules.unicode matchers leaf)
+passes matchers rules (LookAheadNeg leaf) at before after = not (is_some_and after (leaf_matches_char rules.unicode matchers leaf))
+passes matchers rules (LookBehind leaf) at before after = is_some_and before (leaf_matches_char rules.unicode matchers leaf)
+passes matchers rules (LookBehindNeg leaf) at before after = not (is_some_and before (leaf_matches_char rules.unicode matchers leaf))

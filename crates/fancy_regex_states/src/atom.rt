@@ -40,6 +40,8 @@ pub enum Test {
     StartLineOniguruma { crlf: bool },
     /// It holds nowhere.
     Never,
+    /// The place where the search continues (`Rules::continue_at`), for `\G`.
+    Continue,
     /// A character follows that the leaf matches.
     LookAhead(Leaf),
     /// No character follows that the leaf matches.

@@ -80,16 +80,18 @@ pub fn is_matched(matchers: &[CharClassMatcher], unicode: bool, leaf: Leaf, c: O
     }
 }
 
-/// Whether the assertion holds between the characters `before` and `after`; `None` is the start or the end of the text.
+/// Whether the assertion holds at the byte offset `at`, between the characters `before` and `after`; `None` is the start or the end of
+/// the text.
 #[inline(always)]
 pub fn test_holds(
     matchers: &[CharClassMatcher],
     rules: Rules,
     test: Test,
+    at: usize,
     before: Option<char>,
     after: Option<char>,
 ) -> bool
-    ensures { result ≡ passes matchers.now rules test before after }
+    ensures { result ≡ passes matchers.now rules test at before after }
 {
     match test {
         Test::StartText => before.is_none() && !rules.no_start_text,
@@ -111,6 +113,7 @@ pub fn test_holds(
             begins_line(crlf, before, after) && !(after.is_none() && is_char('\n', before))
         }
         Test::Never => false,
+        Test::Continue => rules.continue_at == Some(at),
         Test::LookAhead(leaf) => is_matched(matchers, rules.unicode, leaf, after),
         Test::LookAheadNeg(leaf) => !is_matched(matchers, rules.unicode, leaf, after),
         Test::LookBehind(leaf) => is_matched(matchers, rules.unicode, leaf, before),

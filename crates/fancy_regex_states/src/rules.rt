@@ -11,4 +11,6 @@ pub struct Rules {
     pub no_end_text: bool,
     /// Whether leftmost-longest matching is wanted, instead of leftmost-first.
     pub longest: bool,
+    /// The byte offset at which `\G` holds; `None` where it holds nowhere.
+    pub continue_at: Option<usize>,
 }

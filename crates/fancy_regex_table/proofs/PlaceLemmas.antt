@@ -11,7 +11,7 @@ use Rattle.fancy_regex_states.specs.CharTests.{leaf_matches_char, passes}
 use Rattle.fancy_regex_states.specs.First.{state_at}
 use Rattle.fancy_regex_states.specs.declared.atom.Leaf.{Leaf}
 use Rattle.fancy_regex_states.specs.declared.atom.Test.{Test}
-use Rattle.fancy_regex_states.specs.declared.atom.Test.TheVariants.{StartText, EndText, StartLine, EndLine, WordBoundary, NotWordBoundary, LeftWordBoundary, RightWordBoundary, LeftWordHalfBoundary, RightWordHalfBoundary, StartLineOniguruma, Never, LookAhead, LookAheadNeg, LookBehind, LookBehindNeg}
+use Rattle.fancy_regex_states.specs.declared.atom.Test.TheVariants.{StartText, EndText, StartLine, EndLine, WordBoundary, NotWordBoundary, LeftWordBoundary, RightWordBoundary, LeftWordHalfBoundary, RightWordHalfBoundary, StartLineOniguruma, Never, Continue, LookAhead, LookAheadNeg, LookBehind, LookBehindNeg}
 use Rattle.fancy_regex_states.specs.declared.rules.Rules.{Rules}
 use Rattle.fancy_regex_states.specs.declared.state.State.{State}
 use Rattle.fancy_regex_states.specs.declared.state.State.TheVariants as S
@@ -44,45 +44,46 @@ masked : (e b : Bool) → e ≡ true → b ≡ (e && b)
 masked e b is_e = rw is_e refl
 
 -- an assertion that is asked for holds between the characters as between their sorts
-pub passes_between : (matchers : List CharClassMatcher) (asked : Asked) (rules : Rules) (one other : Option ℕ) → rules.no_start_text ≡ false → rules.no_end_text ≡ false
+pub passes_between : (matchers : List CharClassMatcher) (asked : Asked) (rules : Rules) (at : ℕ) (one other : Option ℕ) → rules.no_start_text ≡ false → rules.no_end_text ≡ false
     → (test : Test) → AsksTest asked test
-    → passes matchers rules test one other ≡ holds_between test (sort_at matchers asked rules.unicode one) (sort_at matchers asked rules.unicode other)
-passes_between matchers asked rules one other start end StartText a = edge_shown asked.edges rules.no_start_text (is_none one) (a.edges refl) start
-passes_between matchers asked rules one other start end EndText a = edge_shown asked.edges rules.no_end_text (is_none other) (a.edges refl) end
-passes_between matchers asked rules one other start end (StartLine crlf) a =
+    → passes matchers rules test at one other ≡ holds_between test (sort_at matchers asked rules.unicode one) (sort_at matchers asked rules.unicode other)
+passes_between matchers asked rules at one other start end StartText a = edge_shown asked.edges rules.no_start_text (is_none one) (a.edges refl) start
+passes_between matchers asked rules at one other start end EndText a = edge_shown asked.edges rules.no_end_text (is_none other) (a.edges refl) end
+passes_between matchers asked rules at one other start end (StartLine crlf) a =
     let e : asked.edges ≡ true = a.edges refl in
     let l : asked.lines ≡ true = a.lines refl in
     rw (e, l) refl
-passes_between matchers asked rules one other start end (EndLine false) a =
+passes_between matchers asked rules at one other start end (EndLine false) a =
     let e : asked.edges ≡ true = a.edges refl in
     let l : asked.lines ≡ true = a.lines refl in
     rw (e, l) refl
-passes_between matchers asked rules one other start end (EndLine true) a =
+passes_between matchers asked rules at one other start end (EndLine true) a =
     let e : asked.edges ≡ true = a.edges refl in
     let l : asked.lines ≡ true = a.lines refl in
     rw (e, l) refl
-passes_between matchers asked rules one other start end WordBoundary a = let w : asked.words ≡ true = a.words refl in rw w refl
-passes_between matchers asked rules one other start end NotWordBoundary a = let w : asked.words ≡ true = a.words refl in rw w refl
-passes_between matchers asked rules one other start end LeftWordBoundary a = let w : asked.words ≡ true = a.words refl in rw w refl
-passes_between matchers asked rules one other start end RightWordBoundary a = let w : asked.words ≡ true = a.words refl in rw w refl
-passes_between matchers asked rules one other start end LeftWordHalfBoundary a = let w : asked.words ≡ true = a.words refl in rw w refl
-passes_between matchers asked rules one other start end RightWordHalfBoundary a = let w : asked.words ≡ true = a.words refl in rw w refl
-passes_between matchers asked rules one other start end (StartLineOniguruma crlf) a =
+passes_between matchers asked rules at one other start end WordBoundary a = let w : asked.words ≡ true = a.words refl in rw w refl
+passes_between matchers asked rules at one other start end NotWordBoundary a = let w : asked.words ≡ true = a.words refl in rw w refl
+passes_between matchers asked rules at one other start end LeftWordBoundary a = let w : asked.words ≡ true = a.words refl in rw w refl
+passes_between matchers asked rules at one other start end RightWordBoundary a = let w : asked.words ≡ true = a.words refl in rw w refl
+passes_between matchers asked rules at one other start end LeftWordHalfBoundary a = let w : asked.words ≡ true = a.words refl in rw w refl
+passes_between matchers asked rules at one other start end RightWordHalfBoundary a = let w : asked.words ≡ true = a.words refl in rw w refl
+passes_between matchers asked rules at one other start end (StartLineOniguruma crlf) a =
     let e : asked.edges ≡ true = a.edges refl in
     let l : asked.lines ≡ true = a.lines refl in
     rw (e, l) refl
-passes_between matchers asked rules one other start end Never a = refl
-passes_between matchers asked rules one other start end (LookAhead leaf) a = matched_in rules.unicode matchers other leaf asked.leaves a.leaf
-passes_between matchers asked rules one other start end (LookAheadNeg leaf) a = ap not (matched_in rules.unicode matchers other leaf asked.leaves a.leaf)
-passes_between matchers asked rules one other start end (LookBehind leaf) a = matched_in rules.unicode matchers one leaf asked.leaves a.leaf
-passes_between matchers asked rules one other start end (LookBehindNeg leaf) a = ap not (matched_in rules.unicode matchers one leaf asked.leaves a.leaf)
+passes_between matchers asked rules at one other start end Never a = refl
+passes_between matchers asked rules at one other start end Continue a = absurd a.leaf
+passes_between matchers asked rules at one other start end (LookAhead leaf) a = matched_in rules.unicode matchers other leaf asked.leaves a.leaf
+passes_between matchers asked rules at one other start end (LookAheadNeg leaf) a = ap not (matched_in rules.unicode matchers other leaf asked.leaves a.leaf)
+passes_between matchers asked rules at one other start end (LookBehind leaf) a = matched_in rules.unicode matchers one leaf asked.leaves a.leaf
+passes_between matchers asked rules at one other start end (LookBehindNeg leaf) a = ap not (matched_in rules.unicode matchers one leaf asked.leaves a.leaf)
 
 holds_as : (asked : Asked) (rules : Rules) (matchers : List CharClassMatcher) (view : View) (at : ℕ) (one other : Option ℕ) (before after : Sort)
     → rules.no_start_text ≡ false → rules.no_end_text ≡ false → Shows matchers rules view at one other
     → before ≡ sort_at matchers asked rules.unicode one → after ≡ sort_at matchers asked rules.unicode other
     → (state : State) → IsAsked asked state → HoldsAs view at before after state
 holds_as asked rules matchers view at one other before after start end shows is_before is_after (S.Look test next) is_asked =
-    shows.holds test ∙ passes_between matchers asked rules one other start end test is_asked
+    shows.holds test ∙ passes_between matchers asked rules at one other start end test is_asked
     ∙ sym (ap (λ (s : Sort). holds_between test s after) is_before ∙ ap (holds_between test (sort_at matchers asked rules.unicode one)) is_after)
 holds_as asked rules matchers view at one other before after start end shows is_before is_after (S.Read leaf next) is_asked = tt
 holds_as asked rules matchers view at one other before after start end shows is_before is_after (S.Split first second) is_asked = tt

@@ -1,7 +1,7 @@
 -- What is asked of characters, as assertions are added.
 use Rattle.std.proofs.Common.{◌≡◌, ◌||◌, Bool, true, false, refl}
 use Rattle.fancy_regex_states.specs.declared.atom.Test.{Test}
-use Rattle.fancy_regex_states.specs.declared.atom.Test.TheVariants.{StartText, EndText, StartLine, EndLine, WordBoundary, NotWordBoundary, LeftWordBoundary, RightWordBoundary, LeftWordHalfBoundary, RightWordHalfBoundary, StartLineOniguruma, Never, LookAhead, LookAheadNeg, LookBehind, LookBehindNeg}
+use Rattle.fancy_regex_states.specs.declared.atom.Test.TheVariants.{StartText, EndText, StartLine, EndLine, WordBoundary, NotWordBoundary, LeftWordBoundary, RightWordBoundary, LeftWordHalfBoundary, RightWordHalfBoundary, StartLineOniguruma, Never, Continue, LookAhead, LookAheadNeg, LookBehind, LookBehindNeg}
 use Rattle.fancy_regex_states.specs.declared.state.State.{State}
 use Rattle.fancy_regex_states.specs.declared.state.State.TheVariants as S
 use Rattle.fancy_regex_table.specs.LeafSets.{HasAll}
@@ -49,6 +49,7 @@ module _ (less more : Asked) (h : AsksMore less more) where
   leaf_still RightWordHalfBoundary a = tt
   leaf_still (StartLineOniguruma crlf) a = tt
   leaf_still Never a = tt
+  leaf_still Continue a = a
   leaf_still (LookAhead leaf) a = h.leaves leaf a
   leaf_still (LookAheadNeg leaf) a = h.leaves leaf a
   leaf_still (LookBehind leaf) a = h.leaves leaf a

@@ -4,7 +4,7 @@ use Rattle.regex_hir.specs.Text.{is_some_and}
 use Rattle.fancy_regex_states.specs.CharTests.{is_char, is_word_char}
 use Rattle.fancy_regex_states.specs.First.{state_at}
 use Rattle.fancy_regex_states.specs.declared.atom.Test.{Test}
-use Rattle.fancy_regex_states.specs.declared.atom.Test.TheVariants.{StartText, EndText, StartLine, EndLine, WordBoundary, NotWordBoundary, LeftWordBoundary, RightWordBoundary, LeftWordHalfBoundary, RightWordHalfBoundary, StartLineOniguruma, Never, LookAhead, LookAheadNeg, LookBehind, LookBehindNeg}
+use Rattle.fancy_regex_states.specs.declared.atom.Test.TheVariants.{StartText, EndText, StartLine, EndLine, WordBoundary, NotWordBoundary, LeftWordBoundary, RightWordBoundary, LeftWordHalfBoundary, RightWordHalfBoundary, StartLineOniguruma, Never, Continue, LookAhead, LookAheadNeg, LookBehind, LookBehindNeg}
 use Rattle.fancy_regex_states.specs.declared.state.State.{State}
 use Rattle.fancy_regex_states.specs.declared.state.State.TheVariants as S
 use Rattle.fancy_regex_class.specs.declared.class.CharClassMatcher.{CharClassMatcher}
@@ -42,6 +42,7 @@ holds_between LeftWordHalfBoundary before after = not before.word
 holds_between RightWordHalfBoundary before after = not after.word
 holds_between (StartLineOniguruma crlf) before after = line_begins_between crlf before after && not (after.edge && before.newline)
 holds_between Never before after = false
+holds_between Continue before after = false
 holds_between (LookAhead leaf) before after = has_leaf after.matched leaf
 holds_between (LookAheadNeg leaf) before after = not (has_leaf after.matched leaf)
 holds_between (LookBehind leaf) before after = has_leaf before.matched leaf
@@ -73,12 +74,13 @@ asks_for_words LeftWordHalfBoundary = true
 asks_for_words RightWordHalfBoundary = true
 asks_for_words _ = false
 
--- the leaf that the assertion asks about is in the set
+-- the leaf that the assertion asks about is in the set, and it asks for no place
 abbrev pub AsksLeaf : Asked → Test → Type 0
 AsksLeaf asked (LookAhead leaf) = HasLeaf asked.leaves leaf
 AsksLeaf asked (LookAheadNeg leaf) = HasLeaf asked.leaves leaf
 AsksLeaf asked (LookBehind leaf) = HasLeaf asked.leaves leaf
 AsksLeaf asked (LookBehindNeg leaf) = HasLeaf asked.leaves leaf
+AsksLeaf asked Continue = ⊥
 AsksLeaf asked _ = Unit {0}
 
 -- all is asked that the assertion asks

@@ -157,7 +157,8 @@ fn agree(tests: &CharTests, one: Option<char>, other: Option<char>) -> bool
         → Agree tests.now.reader.now.unicode tests.now.reader.now.matchers.now tests.now.leaves.now tests.now.asked one other }
 {
     let reader = tests.reader;
-    sort_of(tests.asked, reader, one).is_same(sort_of(tests.asked, reader, other))
+    let sort = sort_of(tests.asked, reader, one);
+    sort.is_same(&sort_of(tests.asked, reader, other))
         && match_alike(reader, tests.leaves, one, other)
 }
 

@@ -112,7 +112,7 @@ pub fn reading_at(readings: &[Reading], after: Sort) -> Option<&Reading>
     ensures { IfSome result (λ found. IsReadingAt readings.now after found.now) }
 {
     for i in 0..readings.len() {
-        if readings[i].after.is_same(after) {
+        if readings[i].after.is_same(&after) {
             return Some(&readings[i]);
         }
     }
@@ -188,7 +188,7 @@ pub fn homes_of(
 
 /// Whether the attempts after characters of this sort are there.
 fn is_home(homes: &[Home], before: Sort) -> bool {
-    homes.iter().any(|home| home.before.is_same(before))
+    homes.iter().any(|home| home.before.is_same(&before))
 }
 
 /// What an attempt comes to that begins after a character of this sort and before one of the column, if that is known.
@@ -197,7 +197,7 @@ pub fn begun_at(homes: &[Home], before: Sort, column: usize) -> Option<&Begun>
 {
     for i in 0..homes.len() {
         let home = &homes[i];
-        if home.before.is_same(before) {
+        if home.before.is_same(&before) {
             let found = begun_in(&home.begun, column)?;
             return Some(found);
         }

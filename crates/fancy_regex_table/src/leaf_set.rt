@@ -73,13 +73,13 @@ impl LeafSet {
 
     /// Whether the sets have the same leaves, in the same places.
     #[inline(always)]
-    pub fn is_same(self, other: LeafSet) -> bool
-        ensures { result ≡ true → self ≡ other }
+    pub fn is_same(&self, other: &LeafSet) -> bool
+        ensures { result ≡ true → self.now ≡ other.now }
     {
-        are_same(self.first, other.first)
-            && are_same(self.second, other.second)
-            && are_same(self.third, other.third)
-            && are_same(self.fourth, other.fourth)
+        are_same(&self.first, &other.first)
+            && are_same(&self.second, &other.second)
+            && are_same(&self.third, &other.third)
+            && are_same(&self.fourth, &other.fourth)
     }
 
     /// Those that match the character; `None` is an end of the text.
@@ -99,12 +99,12 @@ impl LeafSet {
 /// Whether both are the same leaf, or none.
 #[tactic(auto, using(crate::proofs::LeafSetLemmas::leaves_are))]
 #[inline(always)]
-fn are_same(one: Option<Leaf>, other: Option<Leaf>) -> bool
-    ensures { result ≡ true → one ≡ other }
+fn are_same(one: &Option<Leaf>, other: &Option<Leaf>) -> bool
+    ensures { result ≡ true → one.now ≡ other.now }
 {
     match (one, other) {
         (None, None) => true,
-        (Some(one), Some(other)) => is_same(one, other),
+        (Some(one), Some(other)) => is_same(*one, *other),
         _ => false,
     }
 }

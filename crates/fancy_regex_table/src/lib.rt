@@ -21,5 +21,6 @@ mod target;
 mod wide;
 mod wide_maker;
 
+pub use pattern::Starts;
 pub use sign::Sign;
 pub use table::{Passed, Table};

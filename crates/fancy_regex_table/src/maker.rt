@@ -10,7 +10,7 @@ ghost use Rattle.fancy_regex_table.specs.declared.row.Row.TheVariants.{Fresh};
 
 use crate::begun::{Home, Reading, RowStates, begun_at, reading_at, readings_of};
 use crate::columns::Column;
-use crate::pattern::Pattern;
+use crate::pattern::{Pattern, Starts};
 use crate::row::{Cell, Row};
 use crate::rows::{FreshRow, Rows};
 use crate::sort::Sort;
@@ -41,6 +41,7 @@ pub struct MakerContext<'m> {
     pub columns: &'m [Column],
     /// What the attempts come to that begin with the character.
     pub homes: &'m [Home],
+    pub starts: Starts,
 }
 
 /// The cell of the fresh row with this sort before, if it is known.
@@ -63,7 +64,7 @@ fn is_fresh(row: &Row, before: Sort) -> bool
     ensures { result ≡ true → row.now ≡ Fresh before }
 {
     match row {
-        Row::Fresh { before: it } => it.is_same(before),
+        Row::Fresh { before: it } => it.is_same(&before),
         Row::Open { .. } => false,
     }
 }
@@ -115,7 +116,7 @@ fn target_of(
 {
     match row {
         Row::Fresh { .. } => {
-            let target = fresh_target(context.alloc, beginning.begun, column.sort)?;
+            let target = fresh_target(context.alloc, beginning.begun, column, context.starts)?;
             Ok(target)
         }
         Row::Open { found, .. } => {
@@ -237,6 +238,7 @@ pub fn rows_of(
     pattern: &Pattern,
     columns: &[Column],
     homes: &[Home],
+    starts: Starts,
     steps: &mut usize,
 ) -> Result<Made, AllocError>
     ensures { IfOk result (λ made. AreHomes (parts_of pattern.now) columns.now homes.now
@@ -253,6 +255,7 @@ pub fn rows_of(
         pattern,
         columns,
         homes,
+        starts,
     };
     let mut cells = Vec::new(alloc);
     for number in 0..MOST_ROWS {

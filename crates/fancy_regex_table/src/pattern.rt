@@ -9,3 +9,23 @@ pub struct Pattern<'p> {
     /// The state at which each attempt begins.
     pub entry: usize,
 }
+
+/// How common starts are from which an attempt goes on.
+#[derive(Clone, Copy)]
+pub enum Starts {
+    /// A pass ends where no attempt is under way: who asks the table finds the next start.
+    Rare,
+    /// A pass goes on where no attempt is under way.
+    Common,
+}
+
+impl Starts {
+    /// Whether a pass goes on where no attempt is under way.
+    #[inline(always)]
+    pub fn are_common(self) -> bool {
+        match self {
+            Starts::Rare => false,
+            Starts::Common => true,
+        }
+    }
+}

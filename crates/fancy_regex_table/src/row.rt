@@ -77,7 +77,7 @@ pub fn is_same(one: &Row, other: &Row) -> bool
     ensures { result ≡ true → SameRow one.now other.now }
 {
     match (one, other) {
-        (Row::Fresh { before: a }, Row::Fresh { before: b }) => a.is_same(*b),
+        (Row::Fresh { before: a }, Row::Fresh { before: b }) => a.is_same(b),
         (
             Row::Open {
                 before: a,
@@ -92,7 +92,7 @@ pub fn is_same(one: &Row, other: &Row) -> bool
                 found: found_b,
             },
         ) => {
-            a.is_same(*b)
+            a.is_same(b)
                 && is_same_found(*found_a, *found_b)
                 && are_same(own_a, own_b)
                 && are_same(later_a, later_b)

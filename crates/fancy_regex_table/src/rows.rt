@@ -102,7 +102,7 @@ pub fn fresh_for(fresh: &[FreshRow], sort: Sort) -> Option<u32>
 {
     for i in 0..fresh.len() {
         let it = fresh[i];
-        if it.before.is_same(sort) {
+        if it.before.is_same(&sort) {
             return Some(it.row);
         }
     }

@@ -57,14 +57,14 @@ pub fn sort_of(asked: Asked, reader: &Reader, c: Option<char>) -> Sort
 impl Sort {
     /// Whether the sorts are the same.
     #[inline(always)]
-    pub fn is_same(self, other: Sort) -> bool
-        ensures { result ≡ true → self ≡ other }
+    pub fn is_same(&self, other: &Sort) -> bool
+        ensures { result ≡ true → self.now ≡ other.now }
     {
         self.edge == other.edge
             && self.newline == other.newline
             && self.carriage_return == other.carriage_return
             && self.word == other.word
-            && self.matched.is_same(other.matched)
+            && self.matched.is_same(&other.matched)
     }
 }
 
@@ -94,7 +94,8 @@ fn begins_line(crlf: bool, before: Sort, after: Sort) -> bool
     before.edge || before.newline || (crlf && before.carriage_return && !after.newline)
 }
 
-/// Whether the assertion holds between characters of these sorts, where no end of the text is hidden.
+/// Whether the assertion holds between characters of these sorts, where no end of the text is hidden. `\G` asks for a place, so that no
+/// table is made for it.
 pub fn holds(test: Test, before: Sort, after: Sort) -> bool
     ensures { result ≡ holds_between test before after }
 {
@@ -115,7 +116,7 @@ pub fn holds(test: Test, before: Sort, after: Sort) -> bool
         Test::StartLineOniguruma { crlf } => {
             begins_line(crlf, before, after) && !(after.edge && before.newline)
         }
-        Test::Never => false,
+        Test::Never | Test::Continue => false,
         Test::LookAhead(leaf) => after.matched.has(leaf),
         Test::LookAheadNeg(leaf) => !after.matched.has(leaf),
         Test::LookBehind(leaf) => before.matched.has(leaf),
@@ -162,7 +163,7 @@ fn asks_for_words(test: Test) -> bool
     }
 }
 
-/// What all assertions of the states ask; `None` where look-arounds ask about more than four leaves.
+/// What all assertions of the states ask; `None` where look-arounds ask about more than four leaves, or where one is `\G`.
 pub fn asked_by(states: &[State]) -> Option<Asked>
     ensures { IfSome result (λ asked. AreAsked asked states.now) }
 {
@@ -178,7 +179,7 @@ pub fn asked_by(states: &[State]) -> Option<Asked>
     Some(asked)
 }
 
-/// What is asked, with what this state asks, if there is room for its leaf.
+/// What is asked, with what this state asks, if there is room for its leaf and it is not `\G`.
 fn with_state(asked: Asked, state: State) -> Option<Asked>
     ensures more { IfSome result (AsksMore asked) }
     ensures state { IfSome result (λ more. IsAsked more state) }
@@ -204,7 +205,7 @@ fn with_test(asked: Asked, test: Test, leaves: LeafSet) -> Asked
     }
 }
 
-/// The leaves, with the one that the assertion asks about, if there is room.
+/// The leaves, with the one that the assertion asks about, if there is room and it is not `\G`.
 fn with_leaf(leaves: LeafSet, test: Test) -> Option<LeafSet>
     ensures kept { IfSome result (HasAll leaves) }
     ensures leaf { IfSome result (λ more. (asked : AskedValue) → asked.leaves ≡ more → AsksLeaf asked test) }
@@ -214,6 +215,7 @@ fn with_leaf(leaves: LeafSet, test: Test) -> Option<LeafSet>
         | Test::LookAheadNeg(leaf)
         | Test::LookBehind(leaf)
         | Test::LookBehindNeg(leaf) => leaves.with(leaf),
+        Test::Continue => None,
         _ => Some(leaves),
     }
 }

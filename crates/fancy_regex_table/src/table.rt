@@ -10,7 +10,7 @@ use crate::begun::homes_of;
 use crate::columns::columns_of;
 use crate::flat::{cell_at, classes_of, flat_cells, fresh_places};
 use crate::maker::rows_of;
-use crate::pattern::Pattern;
+use crate::pattern::{Pattern, Starts};
 use crate::row::Cell;
 use crate::rows::{FreshRow, begins_of, fresh_for};
 use crate::sort::{Asked, asked_by, sort_of};
@@ -90,6 +90,7 @@ impl Table {
         entry: usize,
         matchers: &[CharClassMatcher],
         unicode: bool,
+        starts: Starts,
     ) -> Result<Option<Table>, AllocError>
         ensures { IfOk result (λ made. IfSome made (IsTable (record {
           states = states.now;
@@ -111,7 +112,7 @@ impl Table {
         let columns = columns_of(alloc, &alphabet, &reader)?;
         let mut steps = MOST_STEPS;
         let homes = homes_of(alloc, &pattern, &columns, &mut steps)?;
-        let made = rows_of(alloc, &pattern, &columns, &homes, &mut steps)?;
+        let made = rows_of(alloc, &pattern, &columns, &homes, starts, &mut steps)?;
         let cells = flat_cells(alloc, &made.cells, columns.len())?;
         let fresh = fresh_places(alloc, &made.fresh, columns.len())?;
         let begins = begins_of(alloc, &columns, &fresh)?;

@@ -9,7 +9,7 @@ ghost use Rattle.fancy_regex_table.specs.declared.row.Row.TheVariants.{Fresh};
 
 use crate::begun::{Begun, Reading};
 use crate::columns::Column;
-use crate::pattern::Pattern;
+use crate::pattern::{Pattern, Starts};
 use crate::row::{Cell, Found, Row};
 use crate::sort::Sort;
 use crate::step::{add_new, step, step_beside};
@@ -24,13 +24,27 @@ pub enum Target {
     Row { row: Row, begins: bool, ends: bool },
 }
 
-/// What the cell of a fresh row leads to. The error is want of memory.
-pub fn fresh_target(alloc: Global, begun: &Begun, after: Sort) -> Result<Target, AllocError>
-    ensures { IfOk result (IsFreshTarget begun.now after) }
+/// What the cell of a fresh row leads to. Where no attempt begins it is the fresh row after the character, if starts are common, so that a
+/// pass goes on. The error is want of memory.
+pub fn fresh_target(
+    alloc: Global,
+    begun: &Begun,
+    column: Column,
+    starts: Starts,
+) -> Result<Target, AllocError>
+    ensures { IfOk result (IsFreshTarget begun.now column.sort) }
 {
+    let after = column.sort;
     if begun.nexts.is_empty() {
         if begun.is_end {
             return Ok(Target::Cell(Cell::Empty));
+        }
+        if starts.are_common() && column.sample.is_some() {
+            return Ok(Target::Row {
+                row: Row::Fresh { before: after },
+                begins: false,
+                ends: false,
+            });
         }
         return Ok(Target::Cell(Cell::Idle));
     }

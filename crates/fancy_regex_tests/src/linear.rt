@@ -5,7 +5,7 @@ use std::alloc::Global;
 use std::test::Fail;
 
 /// Patterns, and whether their regexes are linear.
-static PATTERNS: [(&str, bool); 34] = [
+static PATTERNS: [(&str, bool); 36] = [
     ("a+b", true),
     (r"\bfoo\b", true),
     ("(a)(b|c)*", true),
@@ -35,7 +35,9 @@ static PATTERNS: [(&str, bool); 34] = [
     ("(?>(a))b", true),
     ("(?:a(?=(b)))", true),
     (r"\Ka", false),
-    (r"\Ga", false),
+    (r"\Ga", true),
+    (r"(?>\G|,)\w(?<!\Ga)", true),
+    (r"\G(a)\1", false),
     (r"(a)\g<1>", false),
     ("(a)?(?(1)b|c)", false),
     (r"(a)(?(b)c|\1)", false),
@@ -68,8 +70,10 @@ fn no_regex_that_refuses_empty_matches_is_linear(rt: HostRuntime) -> Result<(), 
 }
 
 #[test]
-fn plain_patterns_alone_are_linear_for_the_longest_match(rt: HostRuntime) -> Result<(), Fail> {
-    assert!(rt; is_linear(rt.alloc(), "a+b", false, true)?);
-    assert!(rt; !is_linear(rt.alloc(), "(?=.*x)a", false, true)?);
+fn the_same_patterns_are_linear_for_the_longest_match(rt: HostRuntime) -> Result<(), Fail> {
+    for (pattern, is_due) in PATTERNS.iter() {
+        let is_told = is_linear(rt.alloc(), pattern, false, true)?;
+        assert!(rt; is_told == *is_due, "{pattern}");
+    }
     Ok(())
 }

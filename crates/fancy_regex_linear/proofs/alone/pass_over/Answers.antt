@@ -20,6 +20,21 @@ returns-then-at-eq0 c = record {
   };
 }
 
+pub returns-then-are_common : goal.returns-then-are_common
+returns-then-are_common c = record {
+  range = (omega arith, c.requires.range.0);
+  boundary = c.requires.boundary;
+  after = c.look-then-are_common.ensures.after;
+  next = c.look-then-are_common.ensures.next;
+  fails = λ view go explains p low less boundary. absurd (omega (arith, low, less));
+  looked = record {
+    at_least = omega (arith, c.look-then-are_common.ensures.ticked);
+    at_most = omega (arith, c.look-then-are_common.ensures.ticked);
+    text = c.look-then-are_common.ensures.text;
+    same_counter = c.look-then-are_common.ensures.same_counter;
+  };
+}
+
 pub returns-then-refuses_all : goal.returns-then-refuses_all
 returns-then-refuses_all c =
     let text = looked_text c.args.text.now in

@@ -20,13 +20,13 @@ returns-in-Read-clause-next c base low =
 
 pub returns-then-test_holds-clause-tracking : goal.returns-then-test_holds-clause-tracking
 returns-then-test_holds-clause-tracking c view go id far shows asks does goal best bottom seen marked adds d =
-    let yes : view.holds c.in-Look.test c.args.at ≡ true = shows.holds c.in-Look.test ∙ ap₂ (passes c.args.context.now.matchers.now c.args.context.now.rules c.in-Look.test) (sym c.look-before.ensures.before) (sym c.look-before.ensures.after) ∙ sym c.test_holds.ensures ∙ c.if-test_holds.true in
+    let yes : view.holds c.in-Look.test c.args.at ≡ true = shows.holds c.in-Look.test ∙ ap₂ (passes c.args.context.now.matchers.now c.args.context.now.rules c.in-Look.test c.args.at) (sym c.look-before.ensures.before) (sym c.look-before.ensures.after) ∙ sym c.test_holds.ensures ∙ c.if-test_holds.true in
     let on = guard_yes _ _ _ (does ∙ ap (λ s. state_visit view c.args.context.now.stop go s c.args.at) c.in-Look.is) yes in
     Dfs-moved view.longest d adds c.in-Look.next c.args.at on.0 on.1
 
 pub returns-else-test_holds-clause-tracking : goal.returns-else-test_holds-clause-tracking
 returns-else-test_holds-clause-tracking c view go id far shows asks does goal best bottom seen marked adds d =
-    let no : view.holds c.in-Look.test c.args.at ≡ false = shows.holds c.in-Look.test ∙ ap₂ (passes c.args.context.now.matchers.now c.args.context.now.rules c.in-Look.test) (sym c.look-before.ensures.before) (sym c.look-before.ensures.after) ∙ sym c.test_holds.ensures ∙ c.if-test_holds.false in
+    let no : view.holds c.in-Look.test c.args.at ≡ false = shows.holds c.in-Look.test ∙ ap₂ (passes c.args.context.now.matchers.now c.args.context.now.rules c.in-Look.test c.args.at) (sym c.look-before.ensures.before) (sym c.look-before.ensures.after) ∙ sym c.test_holds.ensures ∙ c.if-test_holds.false in
     Dfs-dead view.longest d adds (guard_no _ _ _ (does ∙ ap (λ s. state_visit view c.args.context.now.stop go s c.args.at) c.in-Look.is) no)
 
 pub returns-in_ok-push_explore-in-Split-clause-tracking : goal.returns-in_ok-push_explore-in-Split-clause-tracking

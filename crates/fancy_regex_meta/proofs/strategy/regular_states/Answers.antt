@@ -15,7 +15,7 @@ pub returns-clause-states : goal.returns-clause-states
 returns-clause-states c =
     states_are c.args.options.now c.args.info.now c.compile_options.result.unicode c.compile_options.result.leftmost_longest
     c.compile_options.ensures.unicode c.compile_options.ensures.longest c.if-options.false c.if_supported.result
-    c.if_supported.ensures.made c.if_supported.ensures.options c.if_supported.ensures.exact
+    c.if_supported.ensures.made c.if_supported.ensures.options
 
 pub returns-clause-exact : goal.returns-clause-exact
 returns-clause-exact c =

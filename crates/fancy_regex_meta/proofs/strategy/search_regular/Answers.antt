@@ -15,7 +15,7 @@ returns-in_ok-span-in-Span-clause-answer c o t of =
     let text = c.args.text.now in
     let input = c.args.input.now in
     let fm = first_match (setting_for o.unicode_mode text input) (pattern_of t) (search_of o input) in
-    let found : c.in_ok-span-in-Span.span ≡ option_map span_of_match fm = rw (of.empty, of.first) (rw of.unicode at (c.in_ok-span-in-Span.ensures.answer (pattern_of t) of.of)) in
+    let found : c.in_ok-span-in-Span.span ≡ option_map span_of_match fm = rw of.empty (rw (of.unicode, of.longest) at (c.in_ok-span-in-Span.ensures.answer (pattern_of t) of.of)) in
     rw c.in-Span.is (c.found_span.ensures ∙ ap (option_map (λ (s : ℕ × ℕ). (s.0, (s.1, [])))) found ∙ span-parts t fm)
 
 pub returns-in_ok-slots-in-Groups-clause-answer : goal.returns-in_ok-slots-in-Groups-clause-answer
@@ -24,6 +24,6 @@ returns-in_ok-slots-in-Groups-clause-answer c o t of =
     let input = c.args.input.now in
     let fm = first_match (setting_for o.unicode_mode text input) (pattern_of t) (search_of o input) in
     let found : option_map (λ v. v.items) c.in_ok-slots-in-Groups.slots ≡ option_map (match_slots (pattern_of t)) fm =
-    rw (of.empty, of.first) (rw of.unicode at (c.in_ok-slots-in-Groups.ensures.answer (pattern_of t) of.of)) in
+    rw of.empty (rw (of.unicode, of.longest) at (c.in_ok-slots-in-Groups.ensures.answer (pattern_of t) of.of)) in
     rw c.in-Groups.is
     (c.found_groups.ensures ∙ ap (option_map parts_in) found ∙ first-parts t (setting_for o.unicode_mode text input) (search_of o input) c.utf8.text c.requires.first c.requires.range)

@@ -14,7 +14,7 @@ returns-then-not-may_write-clause-walking c view go tried true_of target slots h
     let context = c.args.context.now in
     let table = context.table.now in
     let text = looked_text c.args.text.now in
-    let none = writes_nothing view (length text) context.stop table.states.items go tried.does table.writes.items
+    let none = writes_nothing view (length text) context.range table.states.items go tried.does table.writes.items
     (λ q low. (right_at table q c.requires.ready.table low).no_write) c.args.state c.args.at c.requires.reached.reach.state c.requires.reached.reach.boundary.0
     (sym c.may_write.ensures ∙ c.if-not-may_write.true) in
     wrote_none go table.heads.items c.args.walked.now.visited.base c.args.walked.now.visited target slots c.args.state c.args.at

@@ -9,7 +9,7 @@ use Rattle.fancy_regex_parts.proofs.step.step.Goals as goal
 
 pub returns-clause-task : goal.returns-clause-task
 returns-clause-task c =
-    c.in_ok-task.ensures.task ∙ ap₂ (step_task c.args.context.now.matchers.now c.args.context.now.rules c.args.context.now.stop c.args.q c.args.state c.args.at) c.look-before.ensures.before c.look-before.ensures.after
+    c.in_ok-task.ensures.task ∙ ap₂ (step_task c.args.context.now.matchers.now c.args.context.now.rules c.args.context.now.range c.args.q c.args.state c.args.at) c.look-before.ensures.before c.look-before.ensures.after
 
 pub returns-clause-next : goal.returns-clause-next
 returns-clause-next c =

@@ -6,14 +6,14 @@ use Rattle.fancy_regex_regular.proofs.regular.Regular.begin.Goals as goal
 -- what is kept serves this search
 pub returns-then-serves-clause-ready : goal.returns-then-serves-clause-ready
 returns-then-serves-clause-ready c text is_kept =
-    ready_of c.args.self.now text c.args.input.now c.args.context.now c.requires c.args.memory.now (rw c.lowest-lowest.ensures at (c.serves.ensures.serves c.if-serves.true)) is_kept
+    ready_of c.args.self.now text c.args.input.now c.args.context.now c.requires c.args.memory.now (rw (c.lowest-lowest.ensures, c.continue_place-continue_at.ensures) at (c.serves.ensures.serves c.if-serves.true)) is_kept
 
 pub returns-then-serves-clause-paid : goal.returns-then-serves-clause-paid
 returns-then-serves-clause-paid c text is_kept may =
-    paid_served c.args.self.now c.args.input.now c.args.memory.now.parts c.args.memory.now.kept (rw c.lowest-lowest.ensures at (c.serves.ensures.serves c.if-serves.true))
+    paid_served c.args.self.now c.args.input.now c.args.memory.now.parts c.args.memory.now.kept (rw (c.lowest-lowest.ensures, c.continue_place-continue_at.ensures) at (c.serves.ensures.serves c.if-serves.true))
 
 pub returns-then-serves-clause-serves : goal.returns-then-serves-clause-serves
-returns-then-serves-clause-serves c = rw c.lowest-lowest.ensures at (c.serves.ensures.serves c.if-serves.true)
+returns-then-serves-clause-serves c = rw (c.lowest-lowest.ensures, c.continue_place-continue_at.ensures) at (c.serves.ensures.serves c.if-serves.true)
 
 -- the memory begins anew
 pub returns-clause-anew : goal.returns-clause-anew
@@ -25,13 +25,16 @@ returns-clause-ready c text is_kept = record {
   stack = c.restart.ensures.stack;
   of_text = c.restart.ensures.of_text text;
   remembers = λ view ways has. c.restart.ensures.remembers ways;
-  of_input = (c.restart.ensures.base ∙ sym c.of.ensures.first, c.of.ensures.input);
+  of_input = (c.restart.ensures.base ∙ sym c.of.ensures.first, rw c.continue_place-continue_at.ensures at c.of.ensures.input);
 }
 
 pub returns-clause-paid : goal.returns-clause-paid
 returns-clause-paid c text is_kept may =
     paid_anew c.args.self.now text c.args.input.now c.args.memory.now.parts c.restart.new.self c.args.memory.now.kept is_kept may
-    (rw c.lowest-lowest.ensures at (c.serves.ensures.past c.if-serves.false)) (c.restart.ensures.base ∙ c.lowest-lowest.ensures)
+    (rw (c.lowest-lowest.ensures, c.continue_place-continue_at.ensures) at (c.serves.ensures.past c.if-serves.false)) (c.restart.ensures.base ∙ c.lowest-lowest.ensures)
 
 pub returns-clause-serves : goal.returns-clause-serves
-returns-clause-serves c = record { low = omega (arith, c.of.ensures.first, c.lowest-lowest.ensures); input_is = c.of.ensures.input }
+returns-clause-serves c = record {
+  low = omega (arith, c.of.ensures.first, c.lowest-lowest.ensures);
+  input_is = rw c.continue_place-continue_at.ensures at c.of.ensures.input;
+}

@@ -6,13 +6,13 @@ use Rattle.fancy_regex_regular.proofs.regular.Regular.find_span_in.Goals as goal
 
 pub returns-then-input-clause-answer : goal.returns-then-input-clause-answer
 returns-then-input-clause-answer c pattern is =
-    none_past c.args.self.now.unicode _ _ _ pattern is.states c.args.text.now c.args.input.now (omega (arith, c.if-input.true))
+    none_past c.args.self.now.unicode _ _ _ pattern is.states c.args.text.now c.args.input.now c.args.self.now.longest (omega (arith, c.if-input.true))
 
 pub returns-clause-at_most : goal.returns-clause-at_most
-returns-clause-at_most c pattern is =
+returns-clause-at_most c first pattern is =
     let low : c.args.input.now.first ≤ c.args.input.now.range.end = omega (arith, c.if-input.false) in
     let base = c.find_span_again.ensures.anew c.forget.ensures low in
-    let most = c.find_span_again.ensures.at_most low pattern is in
+    let most = c.find_span_again.ensures.at_most first low pattern is in
     let seen = ap (λ (first : ℕ). 4 * tree_state_weight pattern.groups pattern.tree * (length c.args.text.now - first + 1))
     (seen_is_asked c.args.self.now c.args.input.now pattern is) in
     let begun = ap (λ (first : ℕ). 4 * tree_state_weight pattern.groups pattern.tree * (length c.args.text.now - first + 1)) base in

@@ -1,10 +1,11 @@
-use Rattle.std.proofs.Common.{◌≡◌, ◌∙◌, Bool, rules, ℕ, ◌==◌, length, not, sym, ap, arith, true≢false, refl}
+use Rattle.std.proofs.Common.{◌≡◌, ◌∙◌, Bool, rules, ℕ, ◌==◌, length, not, sym, subst, ap, arith, true≢false, refl}
 use Rattle.fancy_regex_tree.specs.Tree.{Tree}
 use Rattle.fancy_regex_info.specs.Analysis.{analysis}
 use Rattle.fancy_regex_info.specs.Infos.{info_of}
 use Rattle.fancy_regex_info.specs.Views.{pattern_in}
 use Rattle.fancy_regex_regular.proofs.BuildLemmas.{groups_are, first_is}
 use Rattle.fancy_regex_regular.proofs.ExactLemmas.{entry_inside, states_closed, made_in}
+use Rattle.fancy_regex_regular.specs.Continues.{AskNoPlace}
 use Rattle.fancy_regex_regular.specs.Supported.{IsSupported}
 use Rattle.fancy_regex_regular.proofs.regular.Regular.if_supported.Goals as goal
 
@@ -15,6 +16,11 @@ pub invariant_of-result-clause-inside : goal.invariant_of-result-clause-inside
 invariant_of-result-clause-inside c =
     let same = (rw c.in-Some-built.is at c.in_ok-built.ensures.made).1 in
     omega (arith, c.if-entry-len.false, c.len.ensures, c.in-Some.made.states.ok.0, ap length same)
+
+pub invariant_of-result-clause-placeless : goal.invariant_of-result-clause-placeless
+invariant_of-result-clause-placeless c =
+    let same = (rw c.in-Some-built.is at c.in_ok-built.ensures.made).1 in
+    λ never. subst AskNoPlace (c.deref.ensures.value ∙ sym same) (c.ask_for_place-continues.ensures never)
 
 pub returns-in-Some-built-clause-made : goal.returns-in-Some-built-clause-made
 returns-in-Some-built-clause-made c = λ explicit t is.
@@ -45,7 +51,7 @@ pub returns-in_default-clause-exact : goal.returns-in_default-clause-exact
 returns-in_default-clause-exact c explicit t is = (
   λ some. absurd (true≢false (sym some)),
   λ supported. absurd (true≢false (sym (((rw c.in_default.is at c.in_ok-found.ensures.exact) explicit t is).1
-      (made_in c.args.options.now.leftmost_longest explicit t supported)))),
+      (made_in explicit t supported)))),
 )
 
 pub returns-then-not-supports-clause-exact : goal.returns-then-not-supports-clause-exact
@@ -54,12 +60,12 @@ returns-then-not-supports-clause-exact c explicit t is =
 
 pub returns-in_err-found-clause-only : goal.returns-in_err-found-clause-only
 returns-in_err-found-clause-only c =
-    let only : (explicit : Bool) (t : Tree) → info_of c.args.info.now ≡ analysis explicit t → IsSupported c.args.options.now.leftmost_longest (pattern_in explicit t) =
+    let only : (explicit : Bool) (t : Tree) → info_of c.args.info.now ≡ analysis explicit t → IsSupported (pattern_in explicit t) =
     λ explicit t is. (c.supports.ensures.exact explicit t is).0 c.if-not-supports.false in
     search rules
 
 pub returns-in_err-built-clause-only : goal.returns-in_err-built-clause-only
 returns-in_err-built-clause-only c =
-    let only : (explicit : Bool) (t : Tree) → info_of c.args.info.now ≡ analysis explicit t → IsSupported c.args.options.now.leftmost_longest (pattern_in explicit t) =
+    let only : (explicit : Bool) (t : Tree) → info_of c.args.info.now ≡ analysis explicit t → IsSupported (pattern_in explicit t) =
     λ explicit t is. (c.supports.ensures.exact explicit t is).0 c.if-not-supports.false in
     search rules

@@ -1,4 +1,4 @@
-use Rattle.std.proofs.Common.{◌≡◌, ◌∙◌, ◌+◌, ◌-◌, ◌≤◌, ℕ, ◌*◌, Bool, List, Some, length, replicate, sym, ap, ap₂, subst, arith, rules}
+use Rattle.std.proofs.Common.{◌≡◌, ◌∙◌, ◌+◌, ◌-◌, ◌≤◌, ℕ, ◌*◌, Bool, false, List, Some, length, replicate, sym, ap, ap₂, subst, arith, rules}
 use Rattle.std.proofs.lemmas.List.{length-replicate}
 use Rattle.std.specs.Prelude.{IfSome}
 use Rattle.fancy_regex_states.specs.Attempts.{View}
@@ -16,18 +16,19 @@ use Rattle.fancy_regex_parts.specs.Ways.{Ways, ways_of, text_view}
 use Rattle.fancy_regex_linear.specs.Easy.{found_slots, found_at}
 use Rattle.fancy_regex_linear.specs.EasyPatterns.{span_of_match}
 use Rattle.fancy_regex_parts.proofs.AskLemmas.{asks_on, leaves_on}
-use Rattle.fancy_regex_regular.specs.Regulars.{IsRegularOf, LooksFrom, LooksForGroupsFrom}
+use Rattle.fancy_regex_regular.specs.Regulars.{IsRegularOf, LooksFrom, LooksForGroupsFrom, continue_place}
 use Rattle.fancy_regex_regular.specs.Kept.{IsReady, IsTrueFor}
+use Rattle.fancy_regex_regular.proofs.ContinueLemmas.{place_for}
 use Rattle.fancy_regex_regular.proofs.KeptLemmas.{can_ask, kept_after}
 use Rattle.fancy_regex_regular.specs.Starts.{last_start}
 use Rattle.fancy_regex_regular.proofs.RegularGroupLemmas.{none_too, way_of_match, ways_in, tried_in, length_written, refilled}
 use Rattle.fancy_regex_regular.proofs.RegularWeightLemmas.{looks_most, none_for_groups, looks_for_groups}
 use Rattle.fancy_regex_regular.proofs.RegularSpanLemmas.{IsSearched, is_searched, none_past}
-use Rattle.fancy_regex_regular.proofs.regular.Regular.search_again.Goals as goal
-use Rattle.fancy_regex_regular.proofs.regular.Regular.search_again.Goals.{After-begin, After-find, After-walk, In_ok-found}
+use Rattle.fancy_regex_regular.proofs.regular.Regular.search_first.Goals as goal
+use Rattle.fancy_regex_regular.proofs.regular.Regular.search_first.Goals.{After-begin, After-find, After-walk, In_ok-found}
 
 -- the memory can be asked
-ready : (c : After-begin) → IsReady c.context-context.result c.args.text.now c.args.input.now c.begin.new.memory
+ready : (c : After-begin) → IsReady c.args.self.now c.context-context.result c.args.text.now c.args.input.now c.begin.new.memory
 ready c = c.begin.ensures.ready c.args.text.now c.requires.kept
 
 pub find-requires-clause-ready : goal.find-requires-clause-ready
@@ -40,13 +41,13 @@ pub find-requires-clause-starts : goal.find-requires-clause-starts
 find-requires-clause-starts c = let low = (ready (goal.at.find-requires-clause-starts c).After-begin).low in search rules
 
 -- what was found out is kept, after the search and after the walk
-found_kept : (c : After-find) → IsReady c.context-context.result c.args.text.now c.args.input.now c.begin.new.memory
+found_kept : (c : After-find) → IsReady c.args.self.now c.context-context.result c.args.text.now c.args.input.now c.begin.new.memory
     → IfSome c.begin.new.memory.kept (IsTrueFor c.args.self.now c.args.text.now c.find.new.memory)
 found_kept c is_ready =
     kept_after c.args.self.now c.args.text.now c.args.input.now c.context-context.result c.context-context.ensures c.begin.new.memory c.find.new.memory
     c.new-looked.result c.find.new.text c.new-looked.ensures.text is_ready c.find.ensures.leaves
 
-walked_kept : (c : After-walk) → IsReady c.context-context.result c.args.text.now c.args.input.now c.begin.new.memory
+walked_kept : (c : After-walk) → IsReady c.args.self.now c.context-context.result c.args.text.now c.args.input.now c.begin.new.memory
     → IfSome c.begin.new.memory.kept (IsTrueFor c.args.self.now c.args.text.now c.walk.new.memory)
 walked_kept c is_ready =
     kept_after c.args.self.now c.args.text.now c.args.input.now c.context-context.result c.context-context.ensures c.begin.new.memory c.walk.new.memory
@@ -74,21 +75,21 @@ returns-clause-kept c = walked_kept (goal.at.returns-clause-kept c).After-walk (
 pub returns-then-input-clause-answer : goal.returns-then-input-clause-answer
 returns-then-input-clause-answer c pattern is =
     none_too span_of_match (match_slots pattern) _
-    (none_past c.args.self.now.unicode _ _ _ pattern is.states c.args.text.now c.args.input.now (omega (arith, c.if-input.true)))
+    (none_past c.args.self.now.unicode _ _ _ pattern is.states c.args.text.now c.args.input.now false (omega (arith, c.if-input.true)))
 
 -- what the states do in the text
 searched : (c : In_ok-found) (pattern : Pattern) → IsRegularOf c.args.self.now pattern
     → IsSearched c.args.self.now.unicode c.args.self.now.table.states.items c.args.self.now.entry c.args.self.now.matchers.items pattern
-    c.args.text.now c.args.input.now
+    c.args.text.now c.args.input.now (continue_place c.args.self.now c.args.input.now)
 searched c pattern is =
     is_searched c.args.self.now.unicode c.args.self.now.table.states.items c.args.self.now.entry c.args.self.now.matchers.items pattern is.states
-    c.args.text.now c.args.input.now c.utf8.text c.requires.first (omega (arith, c.if-input.false)) c.requires.range
+    c.args.text.now c.args.input.now (continue_place c.args.self.now c.args.input.now) (place_for c.args.self.now c.args.input.now) c.utf8.text c.requires.first (omega (arith, c.if-input.false)) c.requires.range
 
 has_ways : (c : In_ok-found) (pattern : Pattern) (is : IsRegularOf c.args.self.now pattern)
     → HasWays c.context-context.result c.args.text.now (text_view (searched c pattern is).view) (ways_of (searched c pattern is).go)
 has_ways c pattern is =
     let s = searched c pattern is in
-    ways_in c.context-context.result c.args.self.now c.args.input.now c.context-context.ensures c.args.text.now (text_view s.view) (ways_of s.go) s.explains
+    ways_in c.context-context.result c.args.self.now c.args.input.now 0 c.context-context.ensures c.args.text.now (text_view s.view) (ways_of s.go) s.explains
 
 remembers : (c : In_ok-found) (pattern : Pattern) (is : IsRegularOf c.args.self.now pattern)
     → IsTrueOf c.context-context.result (ways_of (searched c pattern is).go) c.begin.new.memory.parts.recall
@@ -129,10 +130,10 @@ returns-clause-answer c pattern is =
     let context = c.context-context.ensures in
     let place : IsInReach self.table text c.begin.new.memory.parts.recall.base self.entry c.in-Some.start =
     rw (context.table_is, context.entry_is, c.new-looked.ensures.text) at (rw c.in-Some.is at c.in_ok-found.ensures.place) in
-    let way = way_of_match self.unicode self.table.states.items self.entry self.matchers.items pattern is.states text input s c.requires.first
+    let way = way_of_match self.unicode self.table.states.items self.entry self.matchers.items pattern is.states text input (continue_place self input) s c.requires.first
     (omega (arith, c.if-input.false)) c.requires.range c.in-Some.start c.in-Some.end place.boundary.0 (sym (found_is m pattern is) ∙ c.in-Some.is) in
     let looked : looked_text c.find.new.text ≡ text = c.find.ensures.leaves.looks.text ∙ c.new-looked.ensures.text in
-    let tried = tried_in c.context-context.result self input context text s.view s.go s.first s.does s.shows in
+    let tried = tried_in c.context-context.result self input 0 context text s.view s.go s.first s.does s.shows in
     let true_of : IsTrueOf c.context-context.result ways c.find.new.memory.recall =
     (rw c.new-looked.ensures.text at c.find.ensures.leaves.remembers) (text_view s.view) ways (has_ways m pattern is) (remembers m pattern is) in
     let written = (rw looked at c.in_ok-walk.ensures.written) s.view s.go tried true_of way.trace
@@ -159,7 +160,7 @@ returns-clause-answer c pattern is =
     ∙ sym way.slots_are
 
 -- the looks, after the search
-found_most : (c : After-find) → IsReady c.context-context.result c.args.text.now c.args.input.now c.begin.new.memory
+found_most : (c : After-find) → IsReady c.args.self.now c.context-context.result c.args.text.now c.args.input.now c.begin.new.memory
     → LooksFrom c.args.self.now c.args.text.now c.begin.new.memory.parts.recall.base c.args.steps.now (look_count c.find.new.text)
 found_most c b pattern is =
     let most = rw (c.context-context.ensures.table_is, c.context-context.ensures.entry_is, c.new-looked.ensures.text, c.new-looked.ensures.count, c.last_start-last.ensures) at c.find.ensures.bound in
@@ -167,7 +168,7 @@ found_most c b pattern is =
     c.begin.new.memory.parts.recall.base c.args.steps.now (look_count c.find.new.text) (omega (arith, b.low)) most
 
 -- where nothing is found
-none_most : (c : After-find) → IsReady c.context-context.result c.args.text.now c.args.input.now c.begin.new.memory
+none_most : (c : After-find) → IsReady c.args.self.now c.context-context.result c.args.text.now c.args.input.now c.begin.new.memory
     → LooksForGroupsFrom c.args.self.now c.args.text.now c.find.new.memory.recall.base c.args.steps.now (look_count c.find.new.text)
 none_most c b pattern is =
     rw c.find.ensures.leaves.base
