@@ -37,7 +37,8 @@ pub struct UnknownStart {
 }
 
 /// The first start from `at` on at which the characters there do not show that no match begins, and the character there; `None` where
-/// they show it for all. Each character up to that one costs a look, and another one where the character after it is tested.
+/// they show it for all. Each character up to that one costs a look, and another one where the character after it is tested. At the
+/// start of the text, and where starts are common, it is the start here, untested.
 #[inline(always)]
 fn pass_over(
     context: &SearchContext,
@@ -85,7 +86,8 @@ pub fn unknown(
 }
 
 /// Goes through the text by the table from `from` on: to the first match, to the end, or to a start of which the table does not tell
-/// whether it matches. Each character that is passed over or read costs a look. Starts are passed over by what stands there.
+/// whether it matches. Each character that is passed over or read costs a look. Starts are passed over by what stands there, unless
+/// starts are common.
 #[inline(always)]
 pub fn by_starts_alone(
     context: &SearchContext,
@@ -105,7 +107,7 @@ pub fn by_starts_alone(
         let Some((start, after)) = pass_over(context, text, it, at) else {
             return Alone::NoMatch;
         };
-        match pass_counted(context, text, it, start) {
+        match pass_counted(context, text, it, start, true) {
             Passed::Match {
                 start: first,
                 end,

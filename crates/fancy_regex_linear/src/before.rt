@@ -62,7 +62,7 @@ pub fn by_before_alone(
     let mut at = from;
     'starts: loop {
         let (start, after) = pass_before(context, text, it, before, at);
-        match pass_counted(context, text, it, start) {
+        match pass_counted(context, text, it, start, true) {
             Passed::Match {
                 start: first,
                 end,

@@ -34,13 +34,15 @@ pub struct TableSearch<'p> {
 
 /// What the table tells of the starts from `start` on, at which a search has looked. The table reads the text by itself. Each place at
 /// which it tests a row costs one look, but for the first, for which the look by which the search found it stands. Where the table tells
-/// nothing more, none is counted: who goes on there counts what was read.
+/// nothing more, none is counted: who goes on there counts what was read. With `past_idle` it goes on where attempts end before a character
+/// that may begin another one.
 #[inline(always)]
 pub fn pass_counted(
     context: &SearchContext,
     text: &mut Counted,
     it: TableSearch,
     start: usize,
+    past_idle: bool,
 ) -> Passed
     requires table { IsTableSearch context.now (looked_text text.old) it }
     requires range { (start ≤ context.now.stop) × (context.now.stop ≤ length (looked_text text.old)) }
@@ -54,7 +56,15 @@ pub fn pass_counted(
     ensures same_counter { SameCounter text.old text.new }
 {
     let before = char_before(it.text, start);
-    let passed = it.table.pass(context.matchers, it.text, start, before, context.stop, true);
+    let passed = it.table.pass(
+        context.matchers,
+        it.text,
+        start,
+        before,
+        context.stop,
+        true,
+        past_idle,
+    );
     match passed {
         Passed::Match { read, .. } => count_places(text, start, read),
         Passed::Ended => count_places(text, start, context.stop),
@@ -89,7 +99,7 @@ pub fn by_table(
     if mode.anchored {
         return Ok(None);
     }
-    match pass_counted(context, text, it, place.at) {
+    match pass_counted(context, text, it, place.at, true) {
         Passed::Match { start, end, .. } => {
             load_match(context, text, start, memory, mode.span_only)?;
             Ok(Some(Settled::Found { start, end }))

@@ -19,6 +19,7 @@ use crate::by_table::TableSearch;
 use crate::emit::emit;
 use crate::first::{Request, from_alone, with_memory};
 use crate::memory::SearchMemory;
+use crate::needed::by_needed_alone;
 use crate::passing::{By, Passing};
 use crate::search::{SearchContext, SearchMode};
 use crate::starts::refused_ascii;
@@ -321,6 +322,9 @@ impl Easy {
             if self.before.is_some() {
                 return self.find_by_before(text, input, steps, memory);
             }
+            if self.has_needed() {
+                return self.find_by_needed(text, input, steps, memory);
+            }
             if let Some(it) = self.table_search(text, input) {
                 // Read so that the proof knows that the counter is a `u64`, which no look lowers.
                 let _before = steps.count();
@@ -375,9 +379,50 @@ impl Easy {
         Ok(found)
     }
 
+    /// Whether searches go on to characters that each match needs.
+    #[inline(always)]
+    fn has_needed(&self) -> bool {
+        match &self.rows {
+            Some(table) => table.has_needed(),
+            None => false,
+        }
+    }
+
+    /// Searches for the span as `find_span_in` does, by the characters that each match needs as far as the table tells. The error is want of
+    /// memory.
+    // Not inlined: so the other search keeps its values in registers.
+    #[inline(never)]
+    fn find_by_needed(
+        &self,
+        text: &str,
+        input: &RunInput,
+        steps: &mut Steps,
+        memory: &mut SearchMemory,
+    ) -> Result<Option<(usize, usize)>, AllocError>
+        requires first { IsCharBoundary text.now input.now.first }
+        requires range { (input.now.first ≤ input.now.range.end) × (input.now.range.end ≤ length text.now) }
+        requires many { input.now.anchored ≡ false }
+        ensures answer { IfOk result (IsMatchSpan self.now text.now input.now) }
+        ensures at_most { LooksAtMost self.now input.now steps.old steps.new }
+        ensures at_least { IfOk result (λ _. LooksAtLeast self.now text.now input.now steps.old steps.new) }
+        ensures counts { steps.old ≤ steps.new }
+    {
+        if let Some(it) = self.table_search(text, input) {
+            // Read so that the proof knows that the counter is a `u64`, which no look lowers.
+            let _before = steps.count();
+            let context = self.context(input);
+            let mut counted = Counted::new(text, steps);
+            let alone = by_needed_alone(&context, &mut counted, it, input.first);
+            let span = from_alone(&context, &mut counted, it, alone, self.groups, memory)?;
+            return Ok(span);
+        }
+        let found = self.span_with_memory(text, input, steps, memory, true)?;
+        Ok(found)
+    }
+
     /// Whether `search_in` finds a match. The error is want of memory; the memory may be used again. No clause says how far the text is
-    /// read, or what is allocated: where the table tells it, the text is meant to be read up to the first sign of a match alone, and
-    /// nothing to be allocated where the memory has the room.
+    /// read, or what is allocated: where the table tells it, the text is meant to be read up to the first sign of a match alone, or to the
+    /// end of the first one where searches go on to characters that are needed, and nothing to be allocated where the memory has the room.
     pub fn has_match_in(
         &self,
         text: &str,
@@ -398,7 +443,8 @@ impl Easy {
         Ok(span.is_some())
     }
 
-    /// What the table tells of the matches in the text; that none starts before the first start, where it does not serve.
+    /// What the table tells of the matches in the text; that none starts before the first start, where it does not serve, or where searches
+    /// go on to characters that are needed.
     fn verdict(&self, text: &str, input: &RunInput) -> Verdict
         requires first { IsCharBoundary text.now input.now.first }
         requires range { input.now.range.end ≤ length text.now }
@@ -411,6 +457,9 @@ impl Easy {
             return Verdict::NoneBefore { at };
         }
         if at > stop {
+            return Verdict::NoneBefore { at };
+        }
+        if self.has_needed() {
             return Verdict::NoneBefore { at };
         }
         let Some(it) = self.table_search(text, input) else {
@@ -588,7 +637,7 @@ fn wanted_table(is_wanted: bool, has_before: bool, passing: &Passing) -> Option<
         return None;
     }
     if has_before {
-        return Some(Starts::Rare);
+        return Some(Starts { per_million: 0 });
     }
     Some(passing.starts)
 }

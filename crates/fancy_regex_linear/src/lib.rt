@@ -18,6 +18,7 @@ mod emit_both;
 mod first;
 mod frame;
 mod memory;
+mod needed;
 mod node;
 mod passing;
 mod regular;

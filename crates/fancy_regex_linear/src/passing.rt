@@ -6,10 +6,7 @@ ghost use Rattle.fancy_regex_linear.specs.Passing.{HasMarksOf, IsPassedUntil, Ar
 ghost use Rattle.fancy_regex_stops.specs.Stops.{Covers, IsBeforeMarked, IsMarked, IsPairAt};
 
 use fancy_regex_stops::Stops;
-use fancy_regex_table::Starts;
-
-/// Starts are rare up to so many of a million characters.
-const MOST_RARE: u32 = 50_000;
+use fancy_regex_table::{Starts, weight};
 
 /// How many bytes are tested together.
 pub const TOGETHER: usize = 16;
@@ -242,11 +239,9 @@ impl Passing {
 /// How common starts are at which an ASCII character stands that is not marked as a first one, before one that is not marked as a second
 /// one, by a fixed measure.
 fn starts_of(first: &[bool; 128], second: &[bool; 128]) -> Starts {
-    let both = commonness(first).saturating_mul(commonness(second));
-    if both > MOST_RARE {
-        return Starts::Common;
+    Starts {
+        per_million: commonness(first).saturating_mul(commonness(second)),
     }
-    Starts::Rare
 }
 
 /// How often a character of a text is one of those that are not marked, by a fixed measure.
@@ -258,16 +253,4 @@ fn commonness(marked: &[bool; 128]) -> u32 {
         }
     }
     sum
-}
-
-/// How many of a thousand characters of a text are this one, about.
-fn weight(code: u8) -> u32 {
-    match code {
-        b' ' => 150,
-        b'\n' | b'a'..=b'z' => 25,
-        b'A'..=b'Z' => 2,
-        b'0'..=b'9' => 4,
-        b'!'..=b'~' => 3,
-        _ => 0,
-    }
 }

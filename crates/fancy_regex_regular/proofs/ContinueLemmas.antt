@@ -37,7 +37,7 @@ asks_or_not false = inr refl
 pub place_for : (regular : Regular) (input : RunInput) → IsPlaceFor (continue_place regular input) input regular.table.states.items
 place_for regular input = elim (asks_or_not regular.continues) [
   | inl asks ↦ inl (ap (λ (b : Bool). if b then input.continue_at else None) asks)
-  | inr never ↦ inr (regular.placeless never)
+  | inr never ↦ inr (regular.placeless.0 never)
 ]
 
 module _ (view : View) (input : RunInput) (place : Option ℕ) (continued : (i : ℕ) → view.holds Continue i ≡ is_some_and input.continue_at (λ g. g == i)) where

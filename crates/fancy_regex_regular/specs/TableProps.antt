@@ -1,5 +1,5 @@
 -- That a table is right, and that it asks for no place, is so in one way.
-use Rattle.std.specs.Prelude.{◌≡◌, ℕ, ◌<◌, Bool, false, length}
+use Rattle.std.specs.Prelude.{◌≡◌, ◌↔◌, ℕ, ◌<◌, Bool, false, length}
 use Rattle.std.specs.Coded.{×_prop, Unit-prop, le_prop, Coded-set, coded_ℕ, coded_bool}
 use Rattle.fancy_regex_states.specs.Attempts.{NamesBelow}
 use Rattle.fancy_regex_states.specs.declared.state.State.{State}
@@ -23,5 +23,5 @@ names_prop n Match = Unit-prop
 pub table_prop : (table : PartTable) → IsProp (IsTable table)
 table_prop table = hlevel (names_prop, le_prop, Coded-set coded_ℕ, Coded-set coded_bool)
 
-pub place_prop : (continues : Bool) (table : PartTable) → IsProp (continues ≡ false → AskNoPlace table.states.items)
+pub place_prop : (continues : Bool) (table : PartTable) → IsProp (continues ≡ false ↔ AskNoPlace table.states.items)
 place_prop continues table = hlevel (Coded-set coded_bool)

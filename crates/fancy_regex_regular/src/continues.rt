@@ -1,6 +1,6 @@
 //! Whether searches ask for the place of `\G`.
 
-ghost use Rattle.std.specs.Prelude.{◌≡◌, ◌<◌, false, length};
+ghost use Rattle.std.specs.Prelude.{◌≡◌, ◌↔◌, ◌<◌, false, length};
 ghost use Rattle.fancy_regex_states.specs.First.{state_at};
 ghost use Rattle.fancy_regex_regular.specs.Continues.{asks_place as asks_place_is, is_continue as is_continue_is, AskNoPlace};
 
@@ -8,7 +8,7 @@ use fancy_regex_states::{State, Test};
 
 /// Whether one of the states is `\G`.
 pub(crate) fn ask_for_place(states: &[State]) -> bool
-    ensures { result ≡ false → AskNoPlace states.now }
+    ensures { result ≡ false ↔ AskNoPlace states.now }
 {
     for q in 0..states.len() {
         if asks_for_place(states, q) {

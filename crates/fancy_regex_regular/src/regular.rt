@@ -38,7 +38,7 @@ pub struct Regular {
     continues: bool,
     ghost right: { IsTable table } by { table_prop table },
     ghost inside: { entry < length table.states.items },
-    ghost placeless: { continues ≡ false → AskNoPlace table.states.items } by { place_prop continues table },
+    ghost placeless: { continues ≡ false ↔ AskNoPlace table.states.items } by { place_prop continues table },
 }
 
 // Written, not derived: so a crate in which such a value may be dropped uses this proof, and has none to make of each type inside.

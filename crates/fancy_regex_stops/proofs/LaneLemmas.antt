@@ -7,7 +7,7 @@ use Rattle.std.proofs.lemmas.Bool.{ltb-true, ltb-false, cases_lt, false≢true}
 use Rattle.std.proofs.lemmas.List.Sums.{prefix_len_passes, prefix_len-le-length}
 use Rattle.std.proofs.lemmas.Simd.{trailing_mask_l, get_or-chunk, length-chunk, length-zip2, get_or-zip2}
 use Rattle.fancy_regex_stops.specs.Gaps.{is_zero, is_more, lesser, greater, limit_gap, gap_in, pair_gap, wrapped}
-use Rattle.fancy_regex_stops.specs.Stops.{Covers, IsMarked, IsPairAt, IsBeforeMarked}
+use Rattle.fancy_regex_stops.specs.Stops.{Covers, CoversShort, IsMarked, IsShort, IsPairAt, IsBeforeMarked}
 use Rattle.fancy_regex_stops.specs.declared.stops.Stops.{Stops}
 
 -- a choice of each lane by a comparison
@@ -61,6 +61,15 @@ mark_says stops marks wide covers c more =
     ⊎_elim
     (λ (ascii : c < 128). inl (ascii, covers.ascii c ascii more))
     (λ (other : 128 ≤ c). inr (other, covers.others (omega (arith, other, below))))
+    (cases_lt c 128)
+
+pub short_says : (stops : Stops) (marks : List Bool) (short : Bool) → CoversShort stops marks short → (c : ℕ) → 0 < gap_in stops c → IsShort marks short c
+short_says stops marks short covers c more =
+    let most : stops.limit ≤ 240 = covers.most in
+    let below : c < stops.limit = limit_more stops.limit c (omega (arith, most)) (both_more _ _ (both_more _ _ (both_more _ _ more).0).0).0 in
+    ⊎_elim
+    (λ (ascii : c < 128). inl (ascii, covers.ascii c ascii more))
+    (λ (other : 128 ≤ c). inr (other, omega (arith, below, most), covers.others (omega (arith, other, below))))
     (cases_lt c 128)
 
 -- where the greater of two is more than 0, one of them is

@@ -3,15 +3,32 @@ use Rattle.std.specs.Prelude.{◌≡◌, ◌<◌, ◌≤◌, ◌+◌, ◌⊎◌,
 use Rattle.fancy_regex_stops.specs.Gaps.{gap_in}
 use Rattle.fancy_regex_stops.specs.declared.stops.Stops.{Stops}
 
+-- each ASCII character that has a gap is marked
+abbrev pub AreCovered : Stops → List Bool → Type 0
+AreCovered stops marks = (c : ℕ) → c < 128 → 0 < gap_in stops c → slice_index_or marks c false ≡ true
+
 -- each ASCII character that has a gap is marked, and the limit is a byte above 128 only if all other characters are passed over
 pub record Covers (stops : Stops) (marks : List Bool) (wide : Bool) : Type 0 where
   pub byte : stops.limit < 256
   pub ascii : (c : ℕ) → c < 128 → 0 < gap_in stops c → slice_index_or marks c false ≡ true
   pub others : 128 < stops.limit → wide ≡ true
 
+-- the same, where characters of up to three bytes alone are passed over beside ASCII characters
+pub record CoversShort (stops : Stops) (marks : List Bool) (short : Bool) : Type 0 where
+  pub most : stops.limit ≤ 240
+  pub ascii : AreCovered stops marks
+  pub others : 128 < stops.limit → short ≡ true
+
 -- the byte of an ASCII character that is marked, or of another character, if these are passed over
 abbrev pub IsMarked : List Bool → Bool → ℕ → Type 0
 IsMarked marks wide c = ((c < 128) × (slice_index_or marks c false ≡ true)) ⊎ ((128 ≤ c) × (wide ≡ true))
+
+-- the byte of an ASCII character that is marked, or of another one of up to three bytes, if these are passed over
+abbrev pub IsShort : List Bool → Bool → ℕ → Type 0
+IsShort marks short c = ((c < 128) × (slice_index_or marks c false ≡ true)) ⊎ ((128 ≤ c) × (c < 240) × (short ≡ true))
+
+abbrev pub IsShortAt : List ℕ → List Bool → Bool → ℕ → Type 0
+IsShortAt bytes marks short i = IsShort marks short (slice_index_or bytes i 0)
 
 -- such a byte stands at i
 abbrev pub IsMarkedAt : List ℕ → List Bool → Bool → ℕ → Type 0

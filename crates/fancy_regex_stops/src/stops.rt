@@ -3,7 +3,7 @@
 ghost use Rattle.std.specs.Prelude.{◌≡◌, ◌≤◌, ◌<◌, ◌+◌, ℕ, List, Bool, true, false, IfSome, length, map, slice_index_or};
 ghost use Rattle.std.specs.Simd.Lanes.{zip2};
 ghost use Rattle.fancy_regex_stops.specs.Gaps.{gap_in, pair_gap};
-ghost use Rattle.fancy_regex_stops.specs.Stops.{Covers, IsMarkedAt, IsPairAt};
+ghost use Rattle.fancy_regex_stops.specs.Stops.{Covers, CoversShort, AreCovered, IsMarkedAt, IsShortAt, IsPairAt};
 
 use crate::byte_range::{ByteRange, gap_below, gaps_below};
 use crate::lanes::{LANES, greatest, lanes_to_zero, least, load};
@@ -11,6 +11,9 @@ use std::simd::u8x16;
 
 /// The least byte that is not ASCII.
 const FIRST_WIDE: u8 = 128;
+
+/// The least byte with which a character of four bytes begins.
+const FIRST_OF_FOUR: u8 = 240;
 
 /// A byte that no text has.
 const NO_BYTE: u8 = 255;
@@ -21,7 +24,7 @@ pub struct Stops {
     first: ByteRange,
     second: ByteRange,
     third: ByteRange,
-    /// 128, or where no byte stops the search that is not ASCII, one that no text has.
+    /// The least of the other bytes that stop the search; where none does, one that no text has.
     limit: u8,
 }
 
@@ -31,12 +34,26 @@ impl Stops {
     pub fn of(marked: &[bool; 128], passes_wide: bool) -> Option<Stops>
         ensures { IfSome result (λ stops. Covers stops marked.now passes_wide) }
     {
+        Stops::with_limit(marked, limit_for(passes_wide))
+    }
+
+    /// The same, where of the other characters those of up to three bytes are passed over if `passes_short`, and none of four bytes is.
+    pub fn of_short(marked: &[bool; 128], passes_short: bool) -> Option<Stops>
+        ensures { IfSome result (λ stops. CoversShort stops marked.now passes_short) }
+    {
+        Stops::with_limit(marked, short_limit_for(passes_short))
+    }
+
+    /// The ranges of the ASCII characters that are not marked, and this limit; `None` where the ranges are none, or more than three.
+    fn with_limit(marked: &[bool; 128], limit: u8) -> Option<Stops>
+        ensures { IfSome result (λ stops. (stops.limit ≡ limit) × AreCovered stops marked.now) }
+    {
         let [first, second, third] = ranges_of(marked)?;
         let stops = Stops {
             first,
             second,
             third,
-            limit: limit_for(passes_wide),
+            limit,
         };
         if stops.covers(marked) {
             return Some(stops);
@@ -52,6 +69,8 @@ impl Stops {
         ensures range { (from ≤ result) × (result ≤ length bytes.now) }
         ensures passed { (marks : List Bool) (wide : Bool) → Covers self.now marks wide
             → (i : ℕ) → from ≤ i → i < result → IsMarkedAt bytes.now marks wide i }
+        ensures short { (marks : List Bool) (short : Bool) → CoversShort self.now marks short
+            → (i : ℕ) → from ≤ i → i < result → IsShortAt bytes.now marks short i }
     {
         let mut at = from;
         'blocks: while bytes.len() - at >= LANES {
@@ -141,7 +160,7 @@ impl Stops {
 
     /// Whether each ASCII character that is not marked is in one of the ranges.
     fn covers(&self, marked: &[bool; 128]) -> bool
-        ensures { result ≡ true → (c : ℕ) → c < 128 → 0 < gap_in self.now c → slice_index_or marked.now c false ≡ true }
+        ensures { result ≡ true → AreCovered self.now marked.now }
     {
         for code in 0..128u8 {
             if self.gap(code) > 0 && !marked[code as usize] {
@@ -158,6 +177,18 @@ fn limit_for(passes_wide: bool) -> u8
     ensures stops { 128 < result → passes_wide ≡ true }
 {
     if passes_wide { NO_BYTE } else { FIRST_WIDE }
+}
+
+/// The same, where no character of four bytes is passed over.
+fn short_limit_for(passes_short: bool) -> u8
+    ensures most { result ≤ 240 }
+    ensures stops { 128 < result → passes_short ≡ true }
+{
+    if passes_short {
+        FIRST_OF_FOUR
+    } else {
+        FIRST_WIDE
+    }
 }
 
 /// The ranges of the ASCII characters that are not marked; `None` where they are none, or more than three.

@@ -24,13 +24,13 @@ some_char text i (c ∷ cs) s e lt none =
 char_of : (text : List ℕ) (i : ℕ) → IsUtf8 (drop i text) → i < length text → char_at text i ≡ None → ⊥
 char_of text i u lt none = some_char text i u.0 u.1.0 u.1.1 lt none
 
-two_long : (c : ℕ) → 0x80 ≤ c → c < 0x800 → len_utf8 c ≡ 2
+pub two_long : (c : ℕ) → 0x80 ≤ c → c < 0x800 → len_utf8 c ≡ 2
 two_long c low high = cond-false _ _ _ (le-ltb c 0x80 low) ∙ cond-true _ _ _ (lt-ltb c 0x800 high)
 
-three_long : (c : ℕ) → 0x800 ≤ c → c < 0x1_0000 → len_utf8 c ≡ 3
+pub three_long : (c : ℕ) → 0x800 ≤ c → c < 0x1_0000 → len_utf8 c ≡ 3
 three_long c low high = cond-false _ _ _ (le-ltb c 0x80 (omega arith)) ∙ cond-false _ _ _ (le-ltb c 0x800 low) ∙ cond-true _ _ _ (lt-ltb c 0x1_0000 high)
 
-four_long : (c : ℕ) → 0x1_0000 ≤ c → len_utf8 c ≡ 4
+pub four_long : (c : ℕ) → 0x1_0000 ≤ c → len_utf8 c ≡ 4
 four_long c low = cond-false _ _ _ (le-ltb c 0x80 (omega arith)) ∙ cond-false _ _ _ (le-ltb c 0x800 (omega arith)) ∙ cond-false _ _ _ (le-ltb c 0x1_0000 low)
 
 -- a character begins here that is not ASCII

@@ -17,3 +17,5 @@ pub mod SignLemmas
 pub mod QuestionLemmas
 pub mod BlockLemmas
 pub mod WideLemmas
+pub mod MarkLemmas
+pub mod NeededLemmas

@@ -12,6 +12,7 @@ use Rattle.fancy_regex_table.specs.Cells.{Parts, IsRight, IsRightBy, TellsBy}
 use Rattle.fancy_regex_table.specs.Flat.{IsFlatCell, AreFlat, ArePlaced}
 use Rattle.fancy_regex_table.specs.Made.{IsMadeOf}
 use Rattle.fancy_regex_table.specs.Making.{AreColumnsOf, ReadsAlike}
+use Rattle.fancy_regex_table.specs.Needed.{AreEnded, IsNeededOf}
 use Rattle.fancy_regex_table.specs.Tables.{IsTable, HasColumn, IsFreshRow, AreBegins}
 use Rattle.fancy_regex_table.specs.Wides.{class_of}
 use Rattle.std.specs.Char.{IsScalar}
@@ -19,6 +20,8 @@ use Rattle.fancy_regex_table.proofs.Adding.{pushed}
 use Rattle.fancy_regex_table.proofs.FlatLemmas.{row_at, has_number, tells_placed, fresh_placed}
 use Rattle.fancy_regex_table.specs.declared.alphabet.Alphabet.{Alphabet}
 use Rattle.fancy_regex_table.specs.declared.columns.Column.{Column}
+use Rattle.fancy_regex_table.specs.declared.needed.Needed.{Needed}
+use Rattle.fancy_regex_table.proofs.NeededLemmas.{ended_cells}
 use Rattle.fancy_regex_table.specs.declared.row.Cell.{Cell}
 use Rattle.fancy_regex_table.specs.declared.row.Row.{Row}
 use Rattle.fancy_regex_table.specs.declared.rows.FreshRow.{FreshRow}
@@ -90,22 +93,26 @@ module _ (parts : Parts) (columns : List Column) (alphabet : Alphabet) (is_alpha
       subst (λ (x : Cell). TellsBy s (row_at made.rows (length columns)) column.sort at next start last x) (sym is.is_placed)
       (tells_placed s made.rows (length columns) many column.sort at next start last is.made (right s at next start last place is_in))
 
-  pub table_is : (cells : Vec Cell Global) (classes : List ℕ) (made_cells : List (Vec Cell Global)) (made_fresh : List FreshRow) (fresh : Vec FreshRow Global)
-      (begins : Vec (Option ℕ) Global) (is_whole : Bool) (beyond : (b : ℕ) → 128 ≤ b → b < 256 → length cells.items ≤ slice_index classes b)
-      → IsMadeOf parts columns made_cells made_fresh → AreFlat made_cells (length columns) cells.items → ArePlaced (length columns) made_fresh fresh.items
+  pub table_is : (made_flat : List Cell) (cells : Vec Cell Global) (classes : List ℕ) (made_cells : List (Vec Cell Global)) (made_fresh : List FreshRow) (fresh : Vec FreshRow Global)
+      (begins : Vec (Option ℕ) Global) (is_whole : Bool) (needed : Option Needed) (beyond : (b : ℕ) → 128 ≤ b → b < 256 → length cells.items ≤ slice_index classes b)
+      → IsMadeOf parts columns made_cells made_fresh → AreFlat made_cells (length columns) made_flat → ArePlaced (length columns) made_fresh fresh.items
+      → AreEnded fresh.items made_flat cells.items → IfSome needed (IsNeededOf cells.items fresh.items begins.items classes alphabet.wide)
       → AreBegins columns fresh.items begins.items → ((c : ℕ) → c < 128 → slice_index classes c ≡ slice_index alphabet.ascii c)
-      → IsTable parts (record { cells = cells; classes = classes; wide = alphabet.wide; asked = alphabet.asked; unicode = parts.unicode; fresh = fresh; begins = begins; is_whole = is_whole; beyond = beyond })
-  table_is cells classes made_cells made_fresh fresh begins is_whole beyond made flat placed are_begins small = record {
+      → IsTable parts (record { cells = cells; classes = classes; wide = alphabet.wide; asked = alphabet.asked; unicode = parts.unicode; fresh = fresh; begins = begins; is_whole = is_whole; needed = needed; beyond = beyond })
+  table_is made_flat cells classes made_cells made_fresh fresh begins is_whole needed beyond made flat placed ended are_needed are_begins small = record {
     rows = row_at made.rows (length columns);
     columns = columns;
     unicode = refl;
     asks = is_alphabet.asks;
-    cells = λ place class row column cell row_is column_is there.
+    cells = ended_cells parts (row_at made.rows (length columns)) columns fresh.items made_flat cells.items
+        (fresh_placed made.rows (length columns) made_fresh fresh.items many made.fresh_rows placed) ended
+        (λ place class row column cell row_is column_is there.
         let has = has_number made.rows (length columns) place row row_is in
         let at : place + class ≡ has.number * length columns + class = ap (λ (p : ℕ). p + class) has.place_is in
         cell_is made_cells made_fresh made has.number class row column cell has.is_there column_is
-        (flat (place + class) cell there has.number class (slice_get_within columns class column column_is) at);
+        (flat (place + class) cell there has.number class (slice_get_within columns class column column_is) at));
     fresh = fresh_placed made.rows (length columns) made_fresh fresh.items many made.fresh_rows placed;
+    needed = are_needed;
     begins = are_begins;
     ascii = λ c lt. subst (HasColumn parts columns alphabet.asked (Some c)) (sym (small c lt)) (ascii_column c lt);
     end = end_column;

@@ -15,3 +15,4 @@ pub mod Signs
 pub mod Questions
 pub mod Blocks
 pub mod Wides
+pub mod Needed

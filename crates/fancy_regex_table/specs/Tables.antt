@@ -1,5 +1,5 @@
 -- What a table says of a search.
-use Rattle.std.specs.Prelude.{◌≡◌, ◌⊎◌, ◌<◌, ◌≤◌, ◌+◌, ℕ, Bool, false, List, Option, Some, None, slice_get, slice_index, length, IsCharBoundary, IsUtf8}
+use Rattle.std.specs.Prelude.{◌≡◌, ◌⊎◌, ◌<◌, ◌≤◌, ◌+◌, ℕ, Bool, false, List, Option, Some, None, slice_get, slice_index, length, IfSome, IsCharBoundary, IsUtf8}
 use Rattle.std.specs.Char.{IsScalar, len_utf8}
 use Rattle.regex_hir.specs.Text.{char_at, char_before}
 use Rattle.fancy_regex_class.specs.declared.class.CharClassMatcher.{CharClassMatcher}
@@ -10,6 +10,7 @@ use Rattle.fancy_regex_table.specs.Cells.{Parts, Search, IsIn, IsRightBy, NoneBe
 use Rattle.fancy_regex_table.specs.Made.{AreFreshBy}
 use Rattle.fancy_regex_table.specs.Making.{ReadsAlike}
 use Rattle.fancy_regex_table.specs.Meanings.{IsMeaning}
+use Rattle.fancy_regex_table.specs.Needed.{IsNeededOf}
 use Rattle.fancy_regex_table.specs.Sorts.{sort_at, AreAsked}
 use Rattle.fancy_regex_table.specs.Wides.{class_of}
 use Rattle.fancy_regex_table.specs.declared.columns.Column.{Column}
@@ -59,6 +60,7 @@ pub record IsTable (parts : Parts) (table : Table) : Type 0 where
   pub cells : AreCells parts rows columns table.cells.items
   pub fresh : AreFreshBy rows table.fresh.items
   pub begins : AreBegins columns table.fresh.items table.begins.items
+  pub needed : IfSome table.needed (IsNeededOf table.cells.items table.fresh.items table.begins.items table.classes table.wide)
   pub ascii : (c : ℕ) → c < 128 → HasColumn parts columns table.asked (Some c) (slice_index table.classes c)
   pub end : HasColumn parts columns table.asked None 0
   pub wide : (c : ℕ) → IsScalar c → 128 ≤ c → 0 < class_of parts.unicode parts.matchers table.wide c

@@ -1,5 +1,5 @@
 -- Classes of characters that are not ASCII.
-use Rattle.std.specs.Prelude.{◌≡◌, ◌+◌, ◌*◌, ◌/◌, ◌%◌, ◌<◌, ◌≤◌, ℕ, Bool, List, Some, length, nat_lt, slice_index, slice_index_or, if◌then◌else◌, IsCharBoundary}
+use Rattle.std.specs.Prelude.{true, false, ◌≡◌, ◌+◌, ◌*◌, ◌/◌, ◌%◌, ◌<◌, ◌≤◌, ℕ, Bool, List, Some, length, nat_lt, slice_index, slice_index_or, if◌then◌else◌, IsCharBoundary}
 use Rattle.std.specs.Char.{len_utf8}
 use Rattle.regex_hir.specs.Text.{char_at}
 use Rattle.fancy_regex_class.specs.declared.class.CharClassMatcher.{CharClassMatcher}
@@ -29,3 +29,7 @@ pub record IsDecoded (unicode : Bool) (matchers : List CharClassMatcher) (wide :
   pub here : char_at text at ≡ Some c
   pub next : it.next ≡ at + len_utf8 c
   pub class : it.class ≡ class_of unicode matchers wide c
+
+-- each class of a character below U+10000 that is not ASCII is marked
+abbrev pub AllShortAre : Wide → List Bool → Type 0
+AllShortAre wide marked = (c : ℕ) → 128 ≤ c → c < 65536 → slice_index_or marked (class_in wide (c / 64) (c % 64)) false ≡ true

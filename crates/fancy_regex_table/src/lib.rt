@@ -9,6 +9,8 @@ mod columns;
 mod flat;
 mod leaf_set;
 mod maker;
+mod needed;
+mod needed_maker;
 mod pattern;
 mod question;
 mod row;
@@ -21,6 +23,8 @@ mod target;
 mod wide;
 mod wide_maker;
 
+pub use needed::Onset;
+pub use needed_maker::weight;
 pub use pattern::Starts;
 pub use sign::Sign;
 pub use table::{Passed, Table};

@@ -41,6 +41,7 @@ pub struct MakerContext<'m> {
     pub columns: &'m [Column],
     /// What the attempts come to that begin with the character.
     pub homes: &'m [Home],
+    /// How common starts are.
     pub starts: Starts,
 }
 

@@ -10,22 +10,20 @@ pub struct Pattern<'p> {
     pub entry: usize,
 }
 
+/// Starts are rare up to so many of a million characters.
+const MOST_RARE: u32 = 50_000;
+
 /// How common starts are from which an attempt goes on.
 #[derive(Clone, Copy)]
-pub enum Starts {
-    /// A pass ends where no attempt is under way: who asks the table finds the next start.
-    Rare,
-    /// A pass goes on where no attempt is under way.
-    Common,
+pub struct Starts {
+    /// Before how many of a million characters of a text there is one, about.
+    pub per_million: u32,
 }
 
 impl Starts {
-    /// Whether a pass goes on where no attempt is under way.
+    /// Whether a pass goes on where no attempt is under way. Else who asks the table finds the next start.
     #[inline(always)]
     pub fn are_common(self) -> bool {
-        match self {
-            Starts::Rare => false,
-            Starts::Common => true,
-        }
+        self.per_million > MOST_RARE
     }
 }

@@ -10,6 +10,8 @@ use crate::begun::homes_of;
 use crate::columns::columns_of;
 use crate::flat::{cell_at, classes_of, flat_cells, fresh_places};
 use crate::maker::rows_of;
+use crate::needed::Needed;
+use crate::needed_maker::{CellPlaces, needed_of};
 use crate::pattern::{Pattern, Starts};
 use crate::row::Cell;
 use crate::rows::{FreshRow, begins_of, fresh_for};
@@ -72,6 +74,8 @@ pub struct Table {
     /// For each class of characters the row for a search that begins after one of them, if there is one.
     begins: Vec<Option<u32>>,
     is_whole: bool,
+    /// How searches go on to characters that each match needs, if they do.
+    pub(crate) needed: Option<Needed>,
     ghost beyond: { (b : ℕ) → 128 ≤ b → b < 256 → length cells.items ≤ slice_index classes b },
 }
 
@@ -82,8 +86,9 @@ impl Table {
     ghost use Rattle.fancy_regex_table.specs.Sorts.{sort_at};
     ghost use Rattle.fancy_regex_table.specs.declared.sort.Sort.{Sort as SortValue};
 
-    /// The table of these states, from the number of the entry; `None` where their look-arounds ask about more than four leaves, or
-    /// where there are more cells than a `u32` counts. The error is want of memory.
+    /// The table of these states, from the number of the entry; `None` where a state is `\G`, where their look-arounds ask about more than
+    /// four leaves, or where there are more cells than a `u32` counts. Where starts are common, passes go on where no attempt is under way;
+    /// no clause says so. The error is want of memory.
     pub fn new(
         alloc: Global,
         states: &[State],
@@ -113,21 +118,30 @@ impl Table {
         let mut steps = MOST_STEPS;
         let homes = homes_of(alloc, &pattern, &columns, &mut steps)?;
         let made = rows_of(alloc, &pattern, &columns, &homes, starts, &mut steps)?;
-        let cells = flat_cells(alloc, &made.cells, columns.len())?;
+        let mut cells = flat_cells(alloc, &made.cells, columns.len())?;
         let fresh = fresh_places(alloc, &made.fresh, columns.len())?;
         let begins = begins_of(alloc, &columns, &fresh)?;
         let Ok(other) = u32::try_from(cells.len()) else {
             return Ok(None);
         };
+        let classes = classes_of(&alphabet.ascii, other);
+        let places = CellPlaces {
+            classes: &classes,
+            wide: &alphabet.wide,
+            fresh: &fresh,
+            begins: &begins,
+        };
+        let needed = needed_of(alloc, &mut cells, &places, starts)?;
         Ok(Some(Table {
             cells,
-            classes: classes_of(&alphabet.ascii, other),
+            classes,
             wide: alphabet.wide,
             asked: alphabet.asked,
             unicode,
             fresh,
             begins,
             is_whole: made.is_whole,
+            needed,
         }))
     }
 
@@ -137,7 +151,8 @@ impl Table {
     }
 
     /// Goes through the text from the byte offset `from`, after the character `before`, up to `stop`. With `at_end` that is the end of
-    /// the text. The matchers are those of the states.
+    /// the text. With `past_idle` the pass goes on where attempts end before a character that may begin another one. The matchers are
+    /// those of the states.
     #[inline(always)]
     pub fn pass(
         &self,
@@ -147,6 +162,7 @@ impl Table {
         before: Option<char>,
         stop: usize,
         at_end: bool,
+        past_idle: bool,
     ) -> Passed
         requires range { (from ≤ stop) × (stop ≤ length text.now) }
         requires boundary { IsCharBoundary text.now from }
@@ -166,7 +182,7 @@ impl Table {
             last: from,
         };
         self.run(text, &mut place, stop);
-        if self.goes_on(text, row, place, stop) {
+        if self.goes_on(text, row, place, stop, past_idle) {
             return self.pass_on(matchers, text, place, stop, at_end);
         }
         if place.at >= stop {
@@ -175,10 +191,10 @@ impl Table {
         self.outcome(matchers, text, place, stop)
     }
 
-    /// Whether the character at this place is not ASCII, or ends the attempts that are under way where the next one may begin another, as
-    /// far as this row tells. The row after the character may tell otherwise.
+    /// Whether the character at this place is not ASCII, or, with `past_idle`, ends the attempts that are under way where the next one may
+    /// begin another, as far as this row tells. The row after the character may tell otherwise.
     #[inline(always)]
-    fn goes_on(&self, text: &str, row: u32, place: Place, stop: usize) -> bool
+    fn goes_on(&self, text: &str, row: u32, place: Place, stop: usize, past_idle: bool) -> bool
         requires { stop ≤ length text.now }
     {
         if place.at >= stop {
@@ -190,7 +206,10 @@ impl Table {
             return true;
         }
         match cell_at(&self.cells, self.classes[byte as usize], place.row) {
-            Cell::Idle if place.at + 1 < stop => self.may_begin(bytes[place.at + 1], row),
+            Cell::Idle if past_idle && place.at + 1 < stop => self.may_begin(
+                bytes[place.at + 1],
+                row,
+            ),
             _ => false,
         }
     }

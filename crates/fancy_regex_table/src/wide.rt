@@ -1,10 +1,11 @@
 //! The classes of characters that are not ASCII, by what the leaves say of them.
 
-ghost use Rattle.std.specs.Prelude.{◌≡◌, ◌<◌, ℕ, Bool, List, Some, IfOk, IsCharBoundary};
+ghost use Rattle.std.specs.Prelude.{◌≡◌, ◌<◌, ◌≤◌, ℕ, Bool, List, Some, true, false, IfOk, IsCharBoundary, length, slice_index_or};
 ghost use Rattle.regex_hir.specs.Text.{char_at};
 ghost use Rattle.fancy_regex_class.specs.declared.class.CharClassMatcher.{CharClassMatcher as MatcherValue};
 ghost use Rattle.fancy_regex_table.specs.Blocks.{AreInside};
 
+use crate::blocks::{FIRST_ROW, ROWS};
 use crate::question::{Question, number_of};
 use fancy_regex_class::CharClassMatcher;
 use std::alloc::{AllocError, Global};
@@ -33,7 +34,7 @@ pub struct WideChar {
 }
 
 impl Wide {
-    ghost use Rattle.fancy_regex_table.specs.Wides.{class_of, class_in, IsWideAt, IsDecoded};
+    ghost use Rattle.fancy_regex_table.specs.Wides.{class_of, class_in, AllShortAre, IsWideAt, IsDecoded};
 
     /// No class is known. The error is want of memory.
     pub fn unknown(alloc: Global) -> Result<Wide, AllocError>
@@ -66,6 +67,38 @@ impl Wide {
             return self.class_in(code / 64, code % 64);
         }
         self.by_answers[number_of(matchers, unicode, &self.questions, c) as usize]
+    }
+
+    /// Whether the class of each character below U+10000 that is not ASCII is marked. Each is known then, if the first one is not marked.
+    pub fn all_short_are(&self, marked: &[bool; 256]) -> bool
+        ensures { result ≡ true → AllShortAre self.now marked.now }
+    {
+        self.have_blocks() && self.classes_are(marked)
+    }
+
+    /// Whether each row of characters that are not ASCII has a block of known classes.
+    fn have_blocks(&self) -> bool
+        ensures { result ≡ true → (row : ℕ) → 2 ≤ row → row < 1024 → 0 < slice_index_or self.now.rows row 0 }
+    {
+        for row in FIRST_ROW..ROWS {
+            if self.rows[row] == 0 {
+                return false;
+            }
+        }
+        true
+    }
+
+    /// Whether all classes of the blocks after the first are marked.
+    fn classes_are(&self, marked: &[bool; 256]) -> bool
+        ensures { result ≡ true → (i : ℕ) → 64 ≤ i → i < length self.now.classes.items
+            → slice_index_or marked.now (slice_index_or self.now.classes.items i 0) false ≡ true }
+    {
+        for i in 64..self.classes.len() {
+            if !marked[self.classes[i] as usize] {
+                return false;
+            }
+        }
+        true
     }
 
     /// The character at the byte offset `at`, which is not ASCII.

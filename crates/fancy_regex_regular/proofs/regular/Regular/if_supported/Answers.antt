@@ -20,7 +20,10 @@ invariant_of-result-clause-inside c =
 pub invariant_of-result-clause-placeless : goal.invariant_of-result-clause-placeless
 invariant_of-result-clause-placeless c =
     let same = (rw c.in-Some-built.is at c.in_ok-built.ensures.made).1 in
-    λ never. subst AskNoPlace (c.deref.ensures.value ∙ sym same) (c.ask_for_place-continues.ensures never)
+    let states = c.deref.ensures.value ∙ sym same in (
+      λ never. subst AskNoPlace states (c.ask_for_place-continues.ensures.0 never),
+      λ none. c.ask_for_place-continues.ensures.1 (subst AskNoPlace (sym states) none),
+    )
 
 pub returns-in-Some-built-clause-made : goal.returns-in-Some-built-clause-made
 returns-in-Some-built-clause-made c = λ explicit t is.

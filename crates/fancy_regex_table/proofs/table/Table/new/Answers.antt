@@ -12,7 +12,9 @@ returns c =
     let cells = rw (c.deref-4.ensures.value, classes) at c.in_ok-cells.ensures in
     let fresh = rw (c.deref-5.ensures.value, again) at c.in_ok-fresh.ensures in
     let begins = rw (c.deref-6.ensures.value, c.deref-7.ensures.value) at c.in_ok-begins.ensures in
+    let ended = rw (c.deref-8.ensures.value) at c.needed_of.ensures.ended in
+    let needed = rw (c.deref-8.ensures.value, c.deref-9.ensures.value) at c.in_ok-needed.ensures.needed in
     table_is (record { states = c.args.states.now; entry = c.args.entry; matchers = c.args.matchers.now; unicode = c.args.unicode })
-    columns c.in_ok-alphabet.alphabet c.in_ok-alphabet.ensures c.in_ok-columns.ensures c.in_ok-cells.cells c.classes_of.result c.in_ok-made.made.cells.items
-    c.in_ok-made.made.fresh.items c.in_ok-fresh.fresh c.in_ok-begins.begins c.in_ok-made.made.is_whole _
-    (made homes) cells fresh begins c.classes_of.ensures.ascii
+    columns c.in_ok-alphabet.alphabet c.in_ok-alphabet.ensures c.in_ok-columns.ensures c.in_ok-cells.cells.items c.needed_of.new.cells c.classes_of-classes.result c.in_ok-made.made.cells.items
+    c.in_ok-made.made.fresh.items c.in_ok-fresh.fresh c.in_ok-begins.begins c.in_ok-made.made.is_whole c.in_ok-needed.needed _
+    (made homes) cells fresh ended needed begins c.classes_of-classes.ensures.ascii

@@ -1,0 +1,10 @@
+use Rattle.std.proofs.Common.{◌≡◌, ◌≤◌, length}
+use Rattle.fancy_regex_table.specs.Needed.{AreEffects}
+use Rattle.fancy_regex_table.proofs.needed_maker.effects_of.Given as goal
+
+abbrev pub invariant-loop-class : goal.invariant-loop-class
+invariant-loop-class l = record {
+  low : 1 ≤ l.class;
+  long : (length l.kept ≡ 256) × (length l.reset ≡ 256);
+  effects : AreEffects l.cells l.places.fresh.now l.places.begins.now l.rows (record { kept = l.kept; reset = l.reset });
+}

@@ -1,0 +1,148 @@
+//! How a search goes on to characters that each match needs.
+
+ghost use Rattle.std.specs.Prelude.{◌≡◌, ◌<◌, ◌≤◌, ◌-◌, ℕ, true, IsCharBoundary, length};
+ghost use Rattle.fancy_regex_stops.specs.Stops.{CoversShort, IsShort, IsShortAt};
+
+use crate::table::Table;
+use fancy_regex_stops::Stops;
+
+/// The least byte with which a character of four bytes begins.
+const FIRST_OF_FOUR: u8 = 240;
+
+/// How a search goes on to characters that each match needs.
+#[derive(Clone, Copy)]
+pub struct Needed {
+    /// For each ASCII character whether it is passed over.
+    pub marked: [bool; 128],
+    /// Whether the other characters of up to three bytes are passed over. None of four bytes is.
+    pub passes_short: bool,
+    pub stops: Stops,
+    /// For each byte whether no attempt is under way after it, where all characters up to it were passed over.
+    pub resets: [bool; 256],
+    ghost covered: { CoversShort stops marked passes_short },
+}
+
+/// Where a search goes on.
+#[derive(Clone, Copy)]
+pub struct Onset {
+    /// No match starts before this place.
+    pub place: usize,
+    /// Before this place no character stops the search once more.
+    pub clear: usize,
+}
+
+impl Needed {
+    ghost use Rattle.fancy_regex_table.specs.Needed.{IsPassedTo, IsResetAt};
+
+    /// Where a search goes on that begins at `from`, after an ASCII character or at the start of the text: after the last character up to
+    /// one that is needed after which no attempt is under way.
+    #[inline(always)]
+    fn onset(&self, bytes: &[u8], from: usize) -> Onset
+        requires { from ≤ length bytes.now }
+        ensures { IsPassedTo self.now bytes.now from result.place }
+    {
+        let stop = self.stop_from(bytes, from);
+        let place = self.reset_before(bytes, from, stop);
+        Onset {
+            place,
+            clear: stop.saturating_add(1),
+        }
+    }
+
+    /// The first byte offset from `from` on of a byte of a character that is not passed over, or the end.
+    #[inline(always)]
+    fn stop_from(&self, bytes: &[u8], from: usize) -> usize
+        requires { from ≤ length bytes.now }
+        ensures range { (from ≤ result) × (result ≤ length bytes.now) }
+        ensures passed { (i : ℕ) → from ≤ i → i < result → IsShortAt bytes.now self.now.marked self.now.passes_short i }
+    {
+        let mut stop = self.stops.until(bytes, from);
+        'bytes: while stop < bytes.len() {
+            if !self.is_passed(bytes[stop]) {
+                return stop;
+            }
+            stop += 1;
+        }
+        stop
+    }
+
+    /// Whether the byte is of a character that is passed over.
+    #[inline(always)]
+    fn is_passed(&self, byte: u8) -> bool
+        ensures { result ≡ true → IsShort self.now.marked self.now.passes_short byte }
+    {
+        if byte < 128 {
+            return self.marked[byte as usize];
+        }
+        byte < FIRST_OF_FOUR && self.passes_short
+    }
+
+    /// The last place up to `stop` after a byte after which no attempt is under way, or `from`.
+    #[inline(always)]
+    fn reset_before(&self, bytes: &[u8], from: usize, stop: usize) -> usize
+        requires { (from ≤ stop) × (stop ≤ length bytes.now) }
+        ensures range { (from ≤ result) × (result ≤ stop) }
+        ensures reset { from < result → IsResetAt self.now.resets bytes.now (result - 1) }
+    {
+        let mut place = stop;
+        'bytes: while place > from {
+            if self.resets[bytes[place - 1] as usize] {
+                return place;
+            }
+            place -= 1;
+        }
+        place
+    }
+}
+
+impl Table {
+    ghost use Rattle.fancy_regex_states.specs.declared.rules.Rules.{Rules};
+    ghost use Rattle.fancy_regex_table.specs.Cells.{Parts, Search, NoneBefore};
+    ghost use Rattle.fancy_regex_table.specs.Tables.{IsTable, IsSearchOf};
+
+    /// Whether searches go on to characters that each match needs.
+    #[inline(always)]
+    pub fn has_needed(&self) -> bool {
+        self.needed.is_some()
+    }
+
+    /// Where a search goes on that begins at `from`. After a character that is not ASCII that is the same place.
+    #[inline(always)]
+    pub fn onset(&self, text: &str, from: usize) -> Onset
+        requires boundary { IsCharBoundary text.now from }
+        ensures early { (parts : Parts) (rules : Rules) (s : Search) → IsTable parts self.now → IsSearchOf parts rules s
+            → s.text ≡ text.now → s.from ≡ from → s.stop ≡ length text.now → NoneBefore s result.place }
+        ensures range { (from ≤ result.place) × (result.place ≤ length text.now) }
+        ensures boundary { IsCharBoundary text.now result.place }
+    {
+        let bytes = text.as_bytes();
+        let here = Onset {
+            place: from,
+            clear: from,
+        };
+        if from > 0 && bytes[from - 1] >= 128 {
+            return here;
+        }
+        let Some(needed) = self.needed.as_ref() else {
+            return here;
+        };
+        let onset = needed.onset(bytes, from);
+        if is_boundary(bytes, onset.place) {
+            return onset;
+        }
+        here
+    }
+}
+
+/// Whether a character begins at this place, or the text ends.
+#[inline(always)]
+fn is_boundary(bytes: &[u8], at: usize) -> bool
+    requires { at ≤ length bytes.now }
+    ensures { result ≡ true → IsCharBoundary bytes.now at }
+{
+    if at >= bytes.len() {
+        return true;
+    }
+    let byte = bytes[at];
+    byte < 128 || byte >= 192
+}
