@@ -7,6 +7,7 @@ use Rattle.fancy_regex_meta.specs.FoundParts.{parts_in}
 use Rattle.fancy_regex_meta.specs.Strategies.{Executes, unlimited, search_of}
 use Rattle.fancy_regex_meta.specs.declared.strategy.Strategy.TheVariants.{Regular}
 use Rattle.fancy_regex_meta.proofs.MatchOffsetLemmas.{first-parts}
+use Rattle.fancy_regex_meta.proofs.SearchLemmas.{if_ok}
 use Rattle.fancy_regex_meta.proofs.strategy.Strategy.search.Goals as goal
 
 pub returns-in_ok-found-in-Groups-clause-answer : goal.returns-in_ok-found-in-Groups-clause-answer
@@ -44,3 +45,9 @@ returns-in-Ok-Err-clause-passed c =
 pub returns-in-Ok-Ok-clause-stays : goal.returns-in-Ok-Ok-clause-stays
 returns-in-Ok-Ok-clause-stays c o under =
     rw c.in-Program.is ((rw c.in-Ok-Ok.field-0-is at c.in-Ok-Ok.ensures.stays) o (rw c.in-Program.is at under))
+
+-- the answer of either
+pub returns-in-Regular-clause-answer : goal.returns-in-Regular-clause-answer
+returns-in-Regular-clause-answer c =
+    if_ok c.search_by_either.result c.search_by_either.ensures.answer
+    (λ found told o t runs. let of = rw c.in-Regular.is at runs in told o t of.0 of.1)

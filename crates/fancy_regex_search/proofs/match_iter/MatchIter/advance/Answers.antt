@@ -1,10 +1,34 @@
-use Rattle.std.proofs.Common.{◌≤◌, ◌∙◌, max, Bool, subst, sym}
+use Rattle.std.proofs.Common.{◌≤◌, ◌∙◌, max, Bool, true≢false, subst, sym, ap, arith}
 use Rattle.fancy_regex_input.specs.declared.config.SearchConfig.{SearchConfig}
 use Rattle.fancy_regex_meta.specs.SearchLimits.{IsMetaSearchError}
 use Rattle.fancy_regex_search.specs.IterationSearches.{SkipsToFrom, at_once}
 use Rattle.fancy_regex_search.proofs.IterationLemmas.{none_found, passes_before}
 use Rattle.fancy_regex_search.proofs.LimitLemmas.{until_all, until_next}
 use Rattle.fancy_regex_search.proofs.match_iter.MatchIter.advance.Goals as goal
+
+-- a match that is skipped
+pub loop-found-preserved : goal.loop-found-preserved
+loop-found-preserved g c =
+    let inv = c.loop-found.invariant in
+    let new = c.step.new.self in
+    let same = c.step.ensures.same in
+    let step = rw (inv.haystack, inv.regex, inv.wanted) at c.in-Skip.ensures.step in
+    let left = rw inv.regex at inv.left in
+    record {
+      left = rw (same.1, inv.regex) (left ∙ step.gives);
+      start = omega (arith, inv.start, step.grows);
+      haystack = same.0 ∙ inv.haystack;
+      regex = same.1 ∙ inv.regex;
+      wanted = same.2 ∙ inv.wanted;
+      config = step.config ∙ ap (λ (a : SearchConfig). record a { start = new.input.config.start }) inv.config;
+      searches = omega (arith, inv.searches, step.nears);
+      passes = λ q o made. inv.passes q o (step.passes q o made);
+      skips = λ q o skips. inv.skips q o (step.leaves.2 q o skips);
+      stays = λ q before. inv.stays q (step.stays q before);
+      done = step.leaves.1 ∙ sym step.leaves.0 ∙ inv.done;
+      last = step.leaves.3 ∙ inv.last;
+      over = λ over. absurd (true≢false (sym over ∙ sym inv.done ∙ step.leaves.0));
+    }
 
 pub returns-in-Item-clause-limits : goal.returns-in-Item-clause-limits
 returns-in-Item-clause-limits g c =
