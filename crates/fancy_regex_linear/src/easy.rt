@@ -631,7 +631,7 @@ fn passing_of(
     }
 }
 
-/// How common starts are for a table, if one is wanted: those that are passed over by the characters before them are not.
+/// How common starts are for a table, if one is wanted: those that are passed over by the characters before them count as rare.
 fn wanted_table(is_wanted: bool, has_before: bool, passing: &Passing) -> Option<Starts> {
     if !is_wanted {
         return None;

@@ -13,7 +13,7 @@ use fancy_regex_class::{Counted, count_places};
 use fancy_regex_table::Passed;
 
 /// The place at which the search goes on that stands at `at`, and the character there. Each place up to that one costs a look. Up to
-/// `clear` no character stops the search; from there on the next one is looked for.
+/// `clear` the characters have been looked at; from there on the next one that is not passed over is looked for.
 #[inline(always)]
 fn pass_to_needed(
     context: &SearchContext,

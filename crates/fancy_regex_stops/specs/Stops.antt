@@ -23,10 +23,12 @@ pub record CoversShort (stops : Stops) (marks : List Bool) (short : Bool) : Type
 abbrev pub IsMarked : List Bool → Bool → ℕ → Type 0
 IsMarked marks wide c = ((c < 128) × (slice_index_or marks c false ≡ true)) ⊎ ((128 ≤ c) × (wide ≡ true))
 
--- the byte of an ASCII character that is marked, or of another one of up to three bytes, if these are passed over
+-- The byte of an ASCII character that is marked, or one from 128 to 239, if these are passed over. From the beginning of a character on
+-- those are the bytes of the characters of two and three bytes.
 abbrev pub IsShort : List Bool → Bool → ℕ → Type 0
 IsShort marks short c = ((c < 128) × (slice_index_or marks c false ≡ true)) ⊎ ((128 ≤ c) × (c < 240) × (short ≡ true))
 
+-- the same of the byte at this place
 abbrev pub IsShortAt : List ℕ → List Bool → Bool → ℕ → Type 0
 IsShortAt bytes marks short i = IsShort marks short (slice_index_or bytes i 0)
 

@@ -25,9 +25,9 @@ pub struct Needed {
 /// Where a search goes on.
 #[derive(Clone, Copy)]
 pub struct Onset {
-    /// No match starts before this place.
+    /// No match starts from where the search stands up to here.
     pub place: usize,
-    /// Before this place no character stops the search once more.
+    /// From this place on the next character that is not passed over has to be looked for. No clause says so.
     pub clear: usize,
 }
 
@@ -49,7 +49,7 @@ impl Needed {
         }
     }
 
-    /// The first byte offset from `from` on of a byte of a character that is not passed over, or the end.
+    /// The first byte offset from `from` on of a byte of a character that is not passed over, or the end. No clause says that it is the first.
     #[inline(always)]
     fn stop_from(&self, bytes: &[u8], from: usize) -> usize
         requires { from ≤ length bytes.now }
@@ -77,7 +77,7 @@ impl Needed {
         byte < FIRST_OF_FOUR && self.passes_short
     }
 
-    /// The last place up to `stop` after a byte after which no attempt is under way, or `from`.
+    /// The last place up to `stop` after a byte after which no attempt is under way, or `from`. No clause says that it is the last.
     #[inline(always)]
     fn reset_before(&self, bytes: &[u8], from: usize, stop: usize) -> usize
         requires { (from ≤ stop) × (stop ≤ length bytes.now) }

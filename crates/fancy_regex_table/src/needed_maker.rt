@@ -62,6 +62,9 @@ pub fn needed_of(
     let Some(rows) = rows_before_rarest(alloc, cells, places, starts)? else {
         return Ok(None);
     };
+    if needed_in(cells, places, &rows).is_none() {
+        return Ok(None);
+    }
     end_passes(cells, places.fresh);
     Ok(needed_in(cells, places, &rows))
 }

@@ -21,7 +21,8 @@ pub struct Starts {
 }
 
 impl Starts {
-    /// Whether a pass goes on where no attempt is under way. Else who asks the table finds the next start.
+    /// Whether a pass goes on where no attempt is under way, unless searches go on to characters that each match needs. Else who asks the
+    /// table finds the next start.
     #[inline(always)]
     pub fn are_common(self) -> bool {
         self.per_million > MOST_RARE

@@ -87,8 +87,8 @@ impl Table {
     ghost use Rattle.fancy_regex_table.specs.declared.sort.Sort.{Sort as SortValue};
 
     /// The table of these states, from the number of the entry; `None` where a state is `\G`, where their look-arounds ask about more than
-    /// four leaves, or where there are more cells than a `u32` counts. Where starts are common, passes go on where no attempt is under way;
-    /// no clause says so. The error is want of memory.
+    /// four leaves, or where there are more cells than a `u32` counts. Where starts are common, passes go on where no attempt is under way,
+    /// unless searches go on to characters that each match needs; no clause says so. The error is want of memory.
     pub fn new(
         alloc: Global,
         states: &[State],
