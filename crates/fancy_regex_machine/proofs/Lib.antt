@@ -4,6 +4,7 @@ pub mod AdvanceLemmas
 pub mod AnswerLemmas
 pub mod LimitLemmas
 mod AlternativeLoopLemmas
+mod ChoiceLemmas
 mod CountedLoopLemmas
 mod SpanThreads
 mod SpanMoves

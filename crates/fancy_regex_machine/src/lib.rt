@@ -10,6 +10,7 @@ mod ahead;
 mod alternative_loops;
 mod calls;
 mod char_loops;
+mod choices;
 mod counted_loops;
 mod error;
 mod failing_places;

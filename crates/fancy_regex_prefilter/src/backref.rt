@@ -11,7 +11,7 @@ use crate::run_context::RunContext;
 use fancy_regex_class::fold;
 
 /// Whether the bytes in `start..end` equal those in `position..next`, which has the same length.
-pub(crate) fn same_bytes(
+pub fn same_bytes(
     run: &RunContext<'_>,
     start: usize,
     end: usize,

@@ -3,7 +3,7 @@
 //! assertions and back references.
 #![tactic(auto)]
 
-mod ahead;
+pub mod ahead;
 pub mod assertion;
 pub mod backref;
 pub mod budget;
