@@ -12,16 +12,19 @@ use Rattle.fancy_regex_table.specs.declared.row.Row.{Row}
 use Rattle.fancy_regex_table.specs.declared.row.Row.TheVariants.{Fresh}
 use Rattle.fancy_regex_table.specs.declared.rows.FreshRow.{FreshRow}
 use Rattle.fancy_regex_table.specs.declared.sort.Sort.{Sort}
-use Rattle.std.proofs.Common.{false, get_or}
+use Rattle.std.proofs.Common.{false, get_or, None}
+use Rattle.std.specs.Prelude.{IfSome}
+use Rattle.fancy_regex_states.specs.declared.state.State.{State}
 use Rattle.std.proofs.lemmas.Option.{slice_get-get_or}
 use Rattle.fancy_regex_table.specs.Cells.{sort_before}
 use Rattle.fancy_regex_table.specs.Making.{IsBegun, IsReading, AreHomes, IsFreshTarget, IsOpenTarget, IsRightTarget}
-use Rattle.fancy_regex_table.specs.Made.{AreReadingsOf, IsCellTo}
+use Rattle.fancy_regex_table.specs.Made.{AreReadingsOf, IsKnownOf, IsCellTo}
 use Rattle.fancy_regex_table.specs.Readings.{IsReadingAt, IsBegunAt}
 use Rattle.fancy_regex_table.specs.Rows.{IsNumberOf}
 use Rattle.fancy_regex_table.specs.declared.begun.Begun.{Begun}
 use Rattle.fancy_regex_table.specs.declared.begun.Home.{Home}
 use Rattle.fancy_regex_table.specs.declared.begun.Reading.{Reading}
+use Rattle.fancy_regex_table.specs.declared.maker.Known.{Known}
 use Rattle.fancy_regex_table.specs.declared.row.Found.{Found}
 use Rattle.fancy_regex_table.specs.declared.row.Row.TheVariants.{Open}
 use Rattle.fancy_regex_table.specs.declared.target.Target.{Target}
@@ -61,6 +64,20 @@ fresh_is_right parts columns rows cells i k made before column cell right there 
     let same : Some it.row ≡ Some (Fresh before) = sym it.is_there ∙ is_fresh in
     let row_is : it.row ≡ Fresh before = cc in
     subst (λ (r : Row). IsRight parts rows r column.sort column.sample cell) row_is (it.right k column cell is_column is_cell)
+
+fresh_number_more : (rows more : List Row) (before : Sort) (number : Option ℕ) → BeginsWith more rows
+    → IfSome number (λ n. slice_get rows n ≡ Some (Fresh before)) → IfSome number (λ n. slice_get more n ≡ Some (Fresh before))
+fresh_number_more rows more before None begins is = is
+fresh_number_more rows more before (Some n) begins is = begins n (Fresh before) is
+
+-- what is known of a row is so with more rows
+pub known_more : (states : List State) (homes : List Home) (rows more : List Row) (row : Row) (known : Known) → BeginsWith more rows
+    → IsKnownOf states homes rows row known → IsKnownOf states homes more row known
+known_more states homes rows more row known begins is = record {
+  home = is.home;
+  fresh = fresh_number_more rows more (sort_before row) known.fresh begins is.fresh;
+  readings = is.readings;
+}
 
 pub fresh_more : (rows more : List Row) (fresh : List FreshRow) → BeginsWith more rows → AreFresh rows fresh → AreFresh more fresh
 fresh_more rows more fresh begins all i it there = begins it.row (Fresh it.before) (all i it there)

@@ -1,11 +1,14 @@
 -- The rows and the cells of a table.
-use Rattle.std.specs.Prelude.{◌≡◌, ℕ, List, Option, Some, slice_get, Vec}
+use Rattle.std.specs.Prelude.{◌≡◌, ℕ, List, Option, Some, IfSome, slice_get, Vec}
 use Rattle.std.specs.declared.alloc.Global.{Global}
 use Rattle.fancy_regex_states.specs.declared.state.State.{State}
-use Rattle.fancy_regex_table.specs.Cells.{Parts, Search, Tells}
+use Rattle.fancy_regex_table.specs.Cells.{Parts, Search, Tells, sort_before}
 use Rattle.fancy_regex_table.specs.Making.{AreReadings, AreRightCells, TellsTarget}
+use Rattle.fancy_regex_table.specs.Readings.{IsHomeAt}
+use Rattle.fancy_regex_table.specs.declared.begun.Home.{Home}
 use Rattle.fancy_regex_table.specs.declared.begun.Reading.{Reading}
 use Rattle.fancy_regex_table.specs.declared.columns.Column.{Column}
+use Rattle.fancy_regex_table.specs.declared.maker.Known.{Known}
 use Rattle.fancy_regex_table.specs.declared.row.Cell.{Cell}
 use Rattle.fancy_regex_table.specs.declared.row.Row.{Row}
 use Rattle.fancy_regex_table.specs.declared.row.Row.TheVariants.{Fresh, Open}
@@ -17,6 +20,12 @@ use Rattle.fancy_regex_table.specs.declared.target.Target.{Target}
 abbrev pub AreReadingsOf : List State → Row → List Reading → Type 0
 AreReadingsOf states (Fresh before) readings = Unit {0}
 AreReadingsOf states (Open before own later found) readings = AreReadings states before own.items later.items readings
+
+-- what is known of the row
+pub record IsKnownOf (states : List State) (homes : List Home) (rows : List Row) (row : Row) (known : Known) : Type 0 where
+  pub home : IsHomeAt homes (sort_before row) known.home.now
+  pub fresh : IfSome known.fresh (λ number. slice_get rows number ≡ Some (Fresh (sort_before row)))
+  pub readings : AreReadingsOf states row known.readings.now
 
 -- each list of cells is that of a row
 pub record IsRowOfCells (parts : Parts) (columns : List Column) (rows : List Row) (r : ℕ) (cells : List Cell) : Type 0 where

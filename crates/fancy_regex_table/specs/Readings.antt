@@ -9,6 +9,10 @@ use Rattle.fancy_regex_table.specs.declared.sort.Sort.{Sort}
 abbrev pub IsReadingAt : List Reading → Sort → Reading → Type 0
 IsReadingAt readings after reading = (reading.after ≡ after) × ((i : ℕ) × (slice_get readings i ≡ Some reading))
 
+-- the attempts that begin after characters of this sort are there
+abbrev pub IsHomeAt : List Home → Sort → Home → Type 0
+IsHomeAt homes before home = (home.before ≡ before) × ((i : ℕ) × (slice_get homes i ≡ Some home))
+
 -- it is what an attempt comes to that begins after a character of this sort and before one of the column
 pub record IsBegunAt (homes : List Home) (before : Sort) (column : ℕ) (begun : Begun) : Type 0 where
   pub place : ℕ

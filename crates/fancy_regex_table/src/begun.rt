@@ -3,7 +3,7 @@
 ghost use Rattle.fancy_regex_table.specs.declared.sort.Sort.{Sort as SortValue};
 ghost use Rattle.std.specs.Prelude.{◌∷◌, [], ◌≡◌, List, IfOk, IfSome, Some, slice_get};
 ghost use Rattle.fancy_regex_table.specs.Making.{parts_of, IsBegun, IsReading, IsHome, AreHomes, AreReadings};
-ghost use Rattle.fancy_regex_table.specs.Readings.{IsReadingAt, IsBegunAt};
+ghost use Rattle.fancy_regex_table.specs.Readings.{IsReadingAt, IsHomeAt};
 
 use crate::close::{Closed, close};
 use crate::columns::Column;
@@ -191,22 +191,20 @@ fn is_home(homes: &[Home], before: Sort) -> bool {
     homes.iter().any(|home| home.before.is_same(&before))
 }
 
-/// What an attempt comes to that begins after a character of this sort and before one of the column, if that is known.
-pub fn begun_at(homes: &[Home], before: Sort, column: usize) -> Option<&Begun>
-    ensures { IfSome result (λ found. IsBegunAt homes.now before column found.now) }
+/// The attempts that begin after characters of this sort, if they are there.
+pub fn home_at(homes: &[Home], before: Sort) -> Option<&Home>
+    ensures { IfSome result (λ found. IsHomeAt homes.now before found.now) }
 {
     for i in 0..homes.len() {
-        let home = &homes[i];
-        if home.before.is_same(&before) {
-            let found = begun_in(&home.begun, column)?;
-            return Some(found);
+        if homes[i].before.is_same(&before) {
+            return Some(&homes[i]);
         }
     }
     None
 }
 
-/// What is known of the column.
-fn begun_in(begun: &[Option<Begun>], column: usize) -> Option<&Begun>
+/// What an attempt comes to that begins before a character of the column, if that is known.
+pub fn begun_in(begun: &[Option<Begun>], column: usize) -> Option<&Begun>
     ensures { IfSome result (λ found. slice_get begun.now column ≡ Some (Some found.now)) }
 {
     if column >= begun.len() {

@@ -71,9 +71,33 @@ impl LeafSet {
         None
     }
 
+    /// Whether the set has no leaves.
+    #[inline(always)]
+    fn is_empty(&self) -> bool
+        ensures { result ≡ true → self.now ≡ no_leaves }
+    {
+        self.first.is_none()
+            && self.second.is_none()
+            && self.third.is_none()
+            && self.fourth.is_none()
+    }
+
     /// Whether the sets have the same leaves, in the same places.
     #[inline(always)]
     pub fn is_same(&self, other: &LeafSet) -> bool
+        ensures { result ≡ true → self.now ≡ other.now }
+    {
+        // Most sets are empty.
+        if self.is_empty() && other.is_empty() {
+            return true;
+        }
+        self.has_same(other)
+    }
+
+    /// Whether the sets have the same leaves, in the same places, leaf by leaf.
+    // Not inlined: few sets have leaves.
+    #[inline(never)]
+    fn has_same(&self, other: &LeafSet) -> bool
         ensures { result ≡ true → self.now ≡ other.now }
     {
         are_same(&self.first, &other.first)

@@ -3,12 +3,13 @@
 ghost use Rattle.std.specs.Prelude.{◌≡◌, ◌<◌, ℕ, List, true, Some, IfOk, IfSome, slice_get, length};
 ghost use Rattle.fancy_regex_table.specs.Cells.{Parts, IsRight, sort_before};
 ghost use Rattle.fancy_regex_table.specs.Making.{parts_of, BeginsWith, IsBegun, AreHomes, IsRightTarget, AreRightCells};
-ghost use Rattle.fancy_regex_table.specs.Made.{AreReadingsOf, AreRightRows, IsCellTo, AreFresh, IsMadeOf};
+ghost use Rattle.fancy_regex_table.specs.Made.{AreReadingsOf, AreRightRows, IsKnownOf, IsCellTo, AreFresh, IsMadeOf};
 ghost use Rattle.fancy_regex_table.specs.declared.columns.Column.{Column as ColumnValue};
 ghost use Rattle.fancy_regex_table.specs.declared.row.Row.{Row as RowValue};
 ghost use Rattle.fancy_regex_table.specs.declared.row.Row.TheVariants.{Fresh};
+ghost use Rattle.fancy_regex_table.specs.declared.sort.Sort.{Sort as SortValue};
 
-use crate::begun::{Home, Reading, RowStates, begun_at, reading_at, readings_of};
+use crate::begun::{Home, Reading, RowStates, begun_in, home_at, reading_at, readings_of};
 use crate::columns::Column;
 use crate::pattern::{Pattern, Starts};
 use crate::row::{Cell, Row};
@@ -45,17 +46,44 @@ pub struct MakerContext<'m> {
     pub starts: Starts,
 }
 
-/// The cell of the fresh row with this sort before, if it is known.
-fn fresh_cell(rows: &Rows, cells: &[Vec<Cell>], before: Sort, column: usize) -> Cell
-    ensures { (parts : Parts) (columns : List ColumnValue) → AreRightRows parts columns rows.now.list.items cells.now
-        → (it : ColumnValue) → slice_get columns column ≡ Some it
-        → IsRight parts rows.now.list.items (Fresh before) it.sort it.sample result }
+/// What is known of a row before its cells are made.
+#[derive(Clone, Copy)]
+pub struct Known<'k> {
+    /// What attempts come to that begin in the row.
+    pub home: &'k Home,
+    /// The number of the fresh row with the same sort before, if there is one.
+    pub fresh: Option<usize>,
+    /// What the states of the row lead to.
+    pub readings: &'k [Reading],
+}
+
+/// The number of the fresh row with this sort before, if there is one.
+fn fresh_number(rows: &Rows, before: Sort) -> Option<usize>
+    ensures { IfSome result (λ number. slice_get rows.now.list.items number ≡ Some (Fresh before)) }
 {
-    for i in 0..cells.len() {
-        let made: &[Cell] = &cells[i];
-        if i < rows.list.len() && column < made.len() && is_fresh(&rows.list[i], before) {
-            return made[column];
+    for i in 0..rows.list.len() {
+        if is_fresh(&rows.list[i], before) {
+            return Some(i);
         }
+    }
+    None
+}
+
+/// The cell of this row and column, if it was made.
+fn made_cell(cells: &[Vec<Cell>], number: Option<usize>, column: usize) -> Cell
+    ensures { (parts : Parts) (columns : List ColumnValue) (rows : List RowValue) (before : SortValue) → AreRightRows parts columns rows cells.now
+        → IfSome number (λ fresh. slice_get rows fresh ≡ Some (Fresh before)) → (it : ColumnValue) → slice_get columns column ≡ Some it
+        → IsRight parts rows (Fresh before) it.sort it.sample result }
+{
+    let Some(number) = number else {
+        return Cell::Unknown;
+    };
+    if number >= cells.len() {
+        return Cell::Unknown;
+    }
+    let made: &[Cell] = &cells[number];
+    if column < made.len() {
+        return made[column];
     }
     Cell::Unknown
 }
@@ -168,7 +196,7 @@ fn cell_of(
     context: &MakerContext,
     rows: &mut Rows,
     number: usize,
-    readings: &[Reading],
+    known: &Known,
     place: usize,
     cells: &[Vec<Cell>],
 ) -> Result<Cell, AllocError>
@@ -178,23 +206,28 @@ fn cell_of(
     ensures cell { IfOk result (λ cell. AreHomes (parts_of context.now.pattern.now) context.now.columns.now context.now.homes.now
         → AreRightRows (parts_of context.now.pattern.now) context.now.columns.now rows.old.list.items cells.now
         → (row : RowValue) → slice_get rows.old.list.items number ≡ Some row
-        → AreReadingsOf context.now.pattern.now.reader.states.now row readings.now
+        → IsKnownOf context.now.pattern.now.reader.states.now context.now.homes.now rows.old.list.items row known.now
         → (column : ColumnValue) → slice_get context.now.columns.now place ≡ Some column
         → IsRight (parts_of context.now.pattern.now) rows.new.list.items row column.sort column.sample cell) }
 {
-    let row = &rows.list[number];
-    let before = row.before();
-    let Some(begun) = begun_at(context.homes, before, place) else {
+    let Some(begun) = begun_in(&known.home.begun, place) else {
         return Ok(Cell::Unknown);
     };
-    let fresh = fresh_cell(rows, cells, before, place);
+    let fresh = made_cell(cells, known.fresh, place);
     let beginning = Beginning { begun, fresh };
-    let target = target_of(context, row, readings, context.columns[place], &beginning)?;
+    let row = &rows.list[number];
+    let target = target_of(
+        context,
+        row,
+        known.readings,
+        context.columns[place],
+        &beginning,
+    )?;
     let cell = cell_to(rows, target)?;
     Ok(cell)
 }
 
-/// The cells of a row, one for each column. The error is want of memory.
+/// The cells of a row, one for each column; none where no attempt is known that begins in the row. The error is want of memory.
 pub fn cells_of(
     context: &MakerContext,
     rows: &mut Rows,
@@ -209,10 +242,21 @@ pub fn cells_of(
         → (row : RowValue) → slice_get rows.old.list.items number ≡ Some row
         → AreRightCells (parts_of context.now.pattern.now) context.now.columns.now rows.new.list.items row made.items) }
 {
-    let readings = readings_at(context, &rows.list[number], steps)?;
-    let mut made = Vec::new(context.alloc);
+    let row = &rows.list[number];
+    let before = row.before();
+    let Some(home) = home_at(context.homes, before) else {
+        return Ok(Vec::new(context.alloc));
+    };
+    let fresh = fresh_number(rows, before);
+    let readings = readings_at(context, row, steps)?;
+    let known = Known {
+        home,
+        fresh,
+        readings: &readings,
+    };
+    let mut made = Vec::with_capacity(context.alloc, context.columns.len())?;
     for k in 0..context.columns.len() {
-        let cell = cell_of(context, rows, number, &readings, k, cells)?;
+        let cell = cell_of(context, rows, number, &known, k, cells)?;
         made.push(cell)?;
     }
     Ok(made)

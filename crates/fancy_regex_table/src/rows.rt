@@ -128,7 +128,7 @@ pub fn begins_of(
 
 /// A number that is the same for rows that are.
 fn hash_of(row: &Row) -> u64 {
-    match row {
+    let hash = match row {
         Row::Fresh { before } => with_sort(1, *before),
         Row::Open {
             before,
@@ -144,7 +144,8 @@ fn hash_of(row: &Row) -> u64 {
             };
             with_states(with_states(mixed(head, kind), own), later)
         }
-    }
+    };
+    hash ^ (hash >> 32)
 }
 
 fn with_sort(hash: u64, sort: Sort) -> u64 {
@@ -177,6 +178,5 @@ fn with_states(hash: u64, states: &[usize]) -> u64 {
 }
 
 fn mixed(hash: u64, value: u64) -> u64 {
-    let product = (hash ^ value).wrapping_mul(0x9E37_79B9_7F4A_7C15);
-    product ^ (product >> 29)
+    hash.wrapping_mul(0x9E37_79B9_7F4A_7C15).wrapping_add(value)
 }
