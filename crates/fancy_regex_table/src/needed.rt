@@ -49,7 +49,8 @@ impl Needed {
         }
     }
 
-    /// The first byte offset from `from` on of a byte of a character that is not passed over, or the end. No clause says that it is the first.
+    /// The first byte offset from `from` on of a byte of a character that is not passed over, or the end. No clause says that it is the
+    /// first.
     #[inline(always)]
     fn stop_from(&self, bytes: &[u8], from: usize) -> usize
         requires { from ≤ length bytes.now }
