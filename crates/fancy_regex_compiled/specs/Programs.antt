@@ -17,7 +17,7 @@ use Rattle.fancy_regex_info.specs.declared.error.CompileError.TheVariants.{Inval
 use Rattle.fancy_regex_program.specs.Assembled.{Body, IsAssembled, IsBodyOf, AreDistinct}
 use Rattle.fancy_regex_program.specs.Caps.{IsWithinCap, IsPastCap}
 use Rattle.fancy_regex_program.specs.Code.{Layout, slots_in, program_of}
-use Rattle.fancy_regex_program.specs.Layouts.{CallsStay}
+use Rattle.fancy_regex_program.specs.Layouts.{CallsAreLaidOut, AreWrittenOut}
 use Rattle.fancy_regex_program.specs.Ops.{ops_of}
 use Rattle.fancy_regex_program.specs.Shapes.{IsAllowed, IsWritable}
 use Rattle.fancy_regex_program.specs.declared.insn.Insn.{Insn}
@@ -35,16 +35,19 @@ pub record IsWritableIfAllowed (unicode whole : Bool) (groups : ℕ) (p : CorePa
   pub writable : IsAllowed unicode true p → IsWritable first groups p
 
 -- These are the instructions of a pattern with so many groups, and their slots, where calls stay calls: the main program, and behind it
--- bodies of called groups, one of each, with their returns, and an end. Each call leads to the body of its group.
+-- bodies of called groups, one of each, with their returns, and an end. Each call leads to the body of its group, or is written out there:
+-- one of a group that leads to no call that stays.
 pub record KeepsCalls (unicode whole anchored : Bool) (groups : ℕ) (pattern : Pattern) (insns : List Insn) (slots : ℕ) : Type 0 where
   pub layout : Layout
+  pub is_written_out : ℕ → Bool
+  pub written_out : AreWrittenOut layout pattern.groups is_written_out
   pub bodies : List Body
   pub code : IsAssembled (in_class unicode) (folded unicode) whole layout anchored groups (core_pattern_of pattern) bodies (ops_of insns) slots
-  pub calls : CallsStay layout (core_pattern_of pattern)
-  pub each : All (IsBodyOf layout pattern.groups) bodies
+  pub calls : CallsAreLaidOut layout is_written_out (core_pattern_of pattern)
+  pub each : All (IsBodyOf layout is_written_out pattern.groups) bodies
   pub distinct : AreDistinct bodies
 
--- These are the instructions of a pattern, and their slots: its calls are written out, or they stay calls.
+-- These are the instructions of a pattern, and their slots: all of its calls are written out, or calls stay calls.
 abbrev pub IsCodeOf : Bool → Bool → Bool → ℕ → Pattern → List Insn → ℕ → Type 0
 IsCodeOf unicode whole anchored groups pattern insns slots =
     IsWhole unicode whole anchored groups (core_pattern_of pattern) insns slots
@@ -87,12 +90,17 @@ abbrev pub IsTooLong : Option ℕ → InfoTree → CompileError → Type 0
 IsTooLong most x e = (explicit : Bool) (t : Tree) → x ≡ analysis explicit t → is_too_complex e ≡ true →
     IsPastCap most (16 * (program_nodes (pattern_in explicit t) + 1))
 
--- the nodes of the tree, and of the bodies of all groups with a return each; a call is one node
+-- What a call counts where calls stay: what is written out for it has no more instructions than so many nodes.
+abbrev pub nodes_of_kept_call : ℕ
+nodes_of_kept_call = 32
+
+-- the nodes of the tree, and of the bodies of all groups with a return each; a call counts as much, whether it stays or not
 abbrev pub nodes_with_calls : Pattern → ℕ
-nodes_with_calls pattern = nodes_with (λ k. 1) pattern.tree + sum_by (λ t. 1 + nodes_with (λ k. 1) t) pattern.groups
+nodes_with_calls pattern =
+    nodes_with (λ k. nodes_of_kept_call) pattern.tree + sum_by (λ t. 1 + nodes_with (λ k. nodes_of_kept_call) t) pattern.groups
 
 -- So many instructions are few for the pattern: at most sixteen for each node with its calls written out, and sixteen more. Where that
--- is above `most`, they may also be sixteen for each node with calls that stay, and sixteen more.
+-- is above `most`, they may also be sixteen for each node where calls stay, and sixteen more.
 abbrev pub AreFew : ℕ → ℕ → Pattern → Type 0
 AreFew most insns pattern =
     let written_out = 16 * (program_nodes pattern + 1) in

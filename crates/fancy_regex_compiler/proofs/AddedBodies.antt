@@ -1,8 +1,7 @@
 -- A body that is written behind the main program.
 use Rattle.std.proofs.Common.{◌≡◌, ℕ, zero, suc, ◌+◌, ◌-◌, ◌<◌, ◌≤◌, Bool, true, false, true≢false, List, [], ◌∷◌, ◌++◌, length, map, get_or, set, Option, Some, None, ◌⊎◌, inl, inr, ⊎_elim, refl, sym, ap, ap₂, subst, ◌∙◌, arith, append_assoc, length-append, get_or-set_same, get_or-set_other}
-use Rattle.std.specs.Prelude.{All, slice_get, ◌==◌}
+use Rattle.std.specs.Prelude.{All, slice_get, ◌==◌, is_some}
 use Rattle.std.specs.List.{Contains}
-use Rattle.std.proofs.Math.Path.{fun_ext}
 use Rattle.std.proofs.lemmas.Bool.Decides.{nat_tests}
 use Rattle.std.proofs.lemmas.List.{map-append, length-set}
 use Rattle.std.proofs.lemmas.List.Elements.{All-push, All-weaker, All-contains, Contains-push, Contains-append_left, Contains-push_cases}
@@ -19,7 +18,7 @@ use Rattle.fancy_regex_program.specs.Ops as op
 use Rattle.fancy_regex_program.specs.Ops.{Op, Place}
 use Rattle.fancy_regex_program.proofs.Stretches.{stretches_more, stand_more}
 use Rattle.fancy_regex_compiler.specs.Kept.{called_pattern, pattern_at, with_pattern, bodies_of, AreStacked, HasBodyOf, IsMarked, HasBodies, IsMet}
-use Rattle.fancy_regex_compiler.specs.Known.{info_written, info_call}
+use Rattle.fancy_regex_compiler.specs.Known.{info_written, info_call, most_calls_in}
 use Rattle.fancy_regex_compiler.specs.Writing.{Draft, with_op, closed_draft, added, with_pat, layout_of, infos_of}
 use Rattle.fancy_regex_compiler.specs.declared.calls.Bodies.{Bodies}
 use Rattle.fancy_regex_compiler.specs.declared.calls.Body.{Body}
@@ -27,14 +26,12 @@ use Rattle.fancy_regex_compiler.specs.declared.emitter.CompileContext.{CompileCo
 use Rattle.fancy_regex_compiler.specs.declared.emitter.Need.{Need}
 use Rattle.fancy_regex_compiler.proofs.StackLemmas.{stacked_more}
 
--- no call is written out where none may open
-pub called_is : (infos : List InfoTree) (opened : List ℕ) (m : ℕ) (x : InfoTree) → m ≡ 0 → (info_written (info_call infos m opened) x).front ≡ called_pattern x
-unfolding info_call
-called_is infos opened m x none =
-    ap (λ n. (info_written (info_call infos n opened) x).front) none ∙ ap (λ c. (info_written c x).front) (fun_ext (λ k. refl))
+-- the pattern of a body, around which no call is open
+pub called_is : (infos : List InfoTree) (opened : List ℕ) (x : InfoTree) → opened ≡ [] → (info_written (info_call infos (most_calls_in infos) opened) x).front ≡ called_pattern infos x
+called_is infos opened x none = ap (λ o. (info_written (info_call infos (most_calls_in infos) o) x).front) none
 
-pub pattern_is : (infos : List InfoTree) (k : ℕ) (x : InfoTree) → slice_get infos k ≡ Some x → pattern_at infos k ≡ called_pattern x
-pattern_is infos k x at = ap (pat_for called_pattern) at
+pub pattern_is : (infos : List InfoTree) (k : ℕ) (x : InfoTree) → slice_get infos k ≡ Some x → pattern_at infos k ≡ called_pattern infos x
+pattern_is infos k x at = ap (pat_for (called_pattern infos)) at
 
 -- one element more
 pub got_more : {A : Type 0} (xs : List A) (y x : A) (k : ℕ) → slice_get (xs ++ y ∷ []) k ≡ Some x → (slice_get xs k ≡ Some x) ⊎ ((k ≡ length xs) × (y ≡ x))
@@ -189,13 +186,15 @@ module _ (context : CompileContext) (main : List Op) (from : ℕ) (d0 d1 d2 : Dr
             count = ap length written_is ∙ length-set old.written.items group true ∙ had.count;
             groups = subst (All (λ (v : Body). v.group < length infos)) (sym list_is)
                 (All-push (λ (v : Body). v.group < length infos) old.list.items b had.groups low);
+            drafted = subst (All (λ (v : Body). is_some (layout_of context v.group) ≡ true)) (sym list_is)
+                (All-push (λ (v : Body). is_some (layout_of context v.group) ≡ true) old.list.items b had.drafted (ap is_some draft));
           }
 
 -- what is marked then
-pub added_met : (old new : Bodies) (need : Need) (b : Body) → need.group ≡ b.group → need.group < length old.written.items → new.list.items ≡ old.list.items ++ b ∷ [] →
-    new.written.items ≡ set old.written.items need.group true → IsMet old new need
-added_met old new need b same low list_is written_is = record {
-  it = ap (λ m. get_or m need.group false) written_is ∙ marked_now old.written.items need.group low;
+pub added_met : (context : CompileContext) (old new : Bodies) (need : Need) (b : Body) → need.group ≡ b.group → need.group < length old.written.items → new.list.items ≡ old.list.items ++ b ∷ [] →
+    new.written.items ≡ set old.written.items need.group true → IsMet context old new need
+added_met context old new need b same low list_is written_is = record {
+  it = λ stays. ap (λ m. get_or m need.group false) written_is ∙ marked_now old.written.items need.group low;
   others = λ k h. ap (λ m. get_or m k false) written_is ∙ marked_before old.written.items need.group low k h;
   only = λ v there. ⊎_elim (λ before. inl before) (λ now. inr (same ∙ ap (λ (z : Body). z.group) now))
       (Contains-push_cases old.list.items b v (subst (λ l. Contains l v) list_is there));

@@ -1,23 +1,27 @@
 -- The body of a group, by what the analysis says of it.
-use Rattle.std.proofs.Common.{◌≡◌, ℕ, ◌+◌, Bool, not, List, length, Option, Some, None, option_map, refl, sym, ap, ◌∙◌, arith}
+use Rattle.std.proofs.Common.{◌≡◌, ℕ, ◌+◌, Bool, not, List, [], length, Option, Some, None, option_map, refl, sym, ap, ◌∙◌, arith}
 use Rattle.std.specs.Prelude.{slice_get}
 use Rattle.std.proofs.lemmas.Option.{none-some, same_Some}
 use Rattle.fancy_regex_tree.specs.Tree.{Tree}
 use Rattle.fancy_regex_meaning.specs.Sizes.{target}
-use Rattle.fancy_regex_desugar.specs.CorePatterns.{fail, called}
+use Rattle.fancy_regex_meaning.specs.Ways.{max_open_calls}
+use Rattle.fancy_regex_desugar.specs.Unfolded.{written, written_call}
+use Rattle.fancy_regex_desugar.specs.CorePatterns.{CorePattern}
 use Rattle.fancy_regex_info.specs.Analysis.{analysis}
 use Rattle.fancy_regex_info.specs.Infos.{InfoTree, expected_info}
 use Rattle.fancy_regex_info.specs.References.{is_read}
 use Rattle.fancy_regex_info.specs.Views.{pattern_in}
-use Rattle.fancy_regex_program.specs.Layouts.{body_with_calls}
+use Rattle.fancy_regex_program.specs.Layouts.{body_pattern}
+use Rattle.fancy_regex_compiler.specs.Kept.{called_pattern}
 use Rattle.fancy_regex_compiler.specs.Known.{info_written, groups_in}
-use Rattle.fancy_regex_compiler.proofs.KnownLemmas.{known_is, get_from, groups_are}
+use Rattle.fancy_regex_compiler.proofs.KnownLemmas.{known_is, get_from, groups_are, calls_are}
 
 -- This is what the analysis says of the body of the group k: the tree of the body, and that its pattern is that of the tree.
 pub record IsGroupBody (explicit : Bool) (t : Tree) (k : ℕ) (y : InfoTree) : Type 0 where
   pub tree : Tree
   pub is_target : target (pattern_in explicit t).groups k ≡ Some tree
-  pub pattern : (info_written (λ j. called j fail) y).front ≡ body_with_calls (pattern_in explicit t).groups k tree
+  pub pattern : called_pattern (groups_in (not explicit) (analysis explicit t)) y ≡ body_pattern (pattern_in explicit t).groups k tree
+  pub written_is : (call : ℕ → CorePattern) → (info_written call y).front ≡ (written (pattern_in explicit t).groups call (k + 1) tree).front
 
 module _ (explicit : Bool) (t : Tree) (k : ℕ) (y : InfoTree) where
   abbrev groups : List Tree
@@ -25,6 +29,9 @@ module _ (explicit : Bool) (t : Tree) (k : ℕ) (y : InfoTree) where
 
   abbrev seen : ℕ → Tree → InfoTree
   seen = expected_info groups (is_read (length groups) t)
+
+  as_tree : (u : Tree) → seen (k + 1) u ≡ y → (call : ℕ → CorePattern) → (info_written call y).front ≡ (written groups call (k + 1) u).front
+  as_tree u same call = ap (λ x. (info_written call x).front) (sym same) ∙ ap (λ v. v.front) (known_is groups (is_read (length groups) t) call (k + 1) u)
 
   found : (o : Option Tree) → target groups k ≡ o → option_map (seen (0 + k + 1)) o ≡ Some y → IsGroupBody explicit t k y
   found None at is = absurd (none-some y is)
@@ -34,8 +41,8 @@ module _ (explicit : Bool) (t : Tree) (k : ℕ) (y : InfoTree) where
       record {
         tree = u;
         is_target = at;
-        pattern = ap (λ x. (info_written (λ j. called j fail) x).front) (sym same)
-            ∙ ap (λ v. v.front) (known_is groups (is_read (length groups) t) (λ j. called j fail) (k + 1) u);
+        pattern = ap (λ c. (info_written c y).front) (calls_are explicit t) ∙ as_tree u same (written_call groups (max_open_calls groups) []);
+        written_is = as_tree u same;
       }
 
   pub body_is : slice_get (groups_in (not explicit) (analysis explicit t)) k ≡ Some y → IsGroupBody explicit t k y

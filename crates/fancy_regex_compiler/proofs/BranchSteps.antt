@@ -1,5 +1,5 @@
 -- Steps to rows, branches, conditionals and calls.
-use Rattle.std.proofs.Common.{◌≡◌, ℕ, zero, suc, ◌+◌, ◌-◌, ◌≤◌, ◌<◌, Bool, false, List, [], ◌∷◌, ◌++◌, length, map, take, Some, Vec, Global, refl, sym, ap, ap₂, ◌∙◌, subst, arith, length-append}
+use Rattle.std.proofs.Common.{◌≡◌, ℕ, zero, suc, ◌+◌, ◌-◌, ◌≤◌, ◌<◌, Bool, false, List, [], ◌∷◌, ◌++◌, length, map, take, None, Some, Vec, Global, refl, sym, ap, ap₂, ◌∙◌, subst, arith, length-append}
 use Rattle.std.proofs.Math.Seq.{take-append_seam}
 use Rattle.std.specs.Prelude.{slice_get, unwrap_or}
 use Rattle.std.proofs.lemmas.Option.{none-some}
@@ -14,10 +14,11 @@ use Rattle.fancy_regex_info.specs.declared.info.Info.{Info}
 use Rattle.fancy_regex_program.specs.Ops as op
 use Rattle.fancy_regex_program.specs.Ops.{Place}
 use Rattle.fancy_regex_program.specs.Code.{Layout, slots_with}
-use Rattle.fancy_regex_compiler.specs.Extents.{extent, room_with}
+use Rattle.fancy_regex_compiler.specs.Extents.{extent}
+use Rattle.fancy_regex_compiler.specs.Rooms.{room_with}
 use Rattle.fancy_regex_compiler.specs.Known.{info_written, info_call}
 use Rattle.fancy_regex_compiler.specs.Refusals.{TreeContext, IsExpandedPart, AreExpandedParts, IsExpandedConditional, IsExpandedTarget}
-use Rattle.fancy_regex_compiler.specs.Needs.{NoneStays, IsNoted}
+use Rattle.fancy_regex_compiler.specs.Needs.{IsNoted}
 use Rattle.fancy_regex_compiler.specs.Tasks.{Progress, progress, closed_by, closing_room, at_others, listed, node_pattern, body_pattern, row_pattern, branches_pattern, past_pattern, past_closing, past_others, past, room_of, IsLetThrough, Leads, LeadsTo}
 use Rattle.fancy_regex_compiler.specs.Writing.{Draft, draft_of, with_op, closed_draft, added, patched, with_pat, layout_of, infos_of}
 use Rattle.fancy_regex_compiler.specs.declared.closing.Closing.{Closing}
@@ -90,14 +91,14 @@ leads_fail context old body slot keeps p S step fails step_is drew long =
     (λ all among. subst (λ q. IsLetThrough context keeps q all) (sym fails) tt) (none_noted (infos_of context) old.needs.items S))
 
 -- a call that fails
-pub leads_no_call : (context : CompileContext) (old : Emitter) (body : ProgramBuilder) (slot : ℕ) (keeps : Bool) (k : ℕ) (p : CorePattern) (S : TreeContext → Type 0) (step : Step) → NoneStays (layout_of context) → p ≡ called k fail →
+pub leads_no_call : (context : CompileContext) (old : Emitter) (body : ProgramBuilder) (slot : ℕ) (keeps : Bool) (k : ℕ) (p : CorePattern) (S : TreeContext → Type 0) (step : Step) → layout_of context k ≡ None → p ≡ called k fail →
     step ≡ record { slot = slot; tasks = tasks.Nothing } → draft_of body ≡ added op.fail (draft_of old.body) → extent (draft_of body) ≡ extent (draft_of old.body) + 1 →
     LeadsTo context p keeps S old (record { body = body; classes = old.classes; opened = old.opened; parts = old.parts; needs = old.needs }) slot step
 leads_no_call context old body slot keeps k p S step none fails step_is drew long =
     let new : Emitter = record { body = body; classes = old.classes; opened = old.opened; parts = old.parts; needs = old.needs } in
     subst (λ r. LeadsTo context p keeps S old new slot r) (sym step_is)
-    (leads_nowhere context old new slot keeps p S (wrote_no_call (layout_of context) context.unicode context.whole old new slot k p (none k) fails drew refl)
-    (let rooms = ap (room_of context) fails in omega (arith, long, rooms, room_called (layout_of context) k fail (none k), room_fail (layout_of context)))
+    (leads_nowhere context old new slot keeps p S (wrote_no_call (layout_of context) context.unicode context.whole old new slot k p none fails drew refl)
+    (let rooms = ap (room_of context) fails in omega (arith, long, rooms, room_called (layout_of context) k fail none, room_fail (layout_of context)))
     (λ all among. subst (λ q. IsLetThrough context keeps q all) (sym fails) (called_allowed (layout_of context) all context.unicode keeps k fail none tt))
     (none_noted (infos_of context) old.needs.items S))
 
@@ -285,7 +286,7 @@ leads_condition context old body slot inside scope step split first t x y z d st
     })
 
 -- a call that opens
-pub leads_call : (context : CompileContext) (old new : Emitter) (slot m k : ℕ) (scope inner : Scope) (x : Bor Info) → NoneStays (layout_of context) → scope.calls_left ≡ suc m → inner.calls_left ≡ m →
+pub leads_call : (context : CompileContext) (old new : Emitter) (slot m k : ℕ) (scope inner : Scope) (x : Bor Info) → layout_of context k ≡ None → scope.calls_left ≡ suc m → inner.calls_left ≡ m →
     inner.may_keep ≡ scope.may_keep → inner.may_be_absent ≡ scope.may_be_absent → slice_get (infos_of context) k ≡ Some (info_of x.now) →
     is_at_call_limit old.opened.items k ≡ false → draft_of new.body ≡ draft_of old.body → new.opened.items ≡ old.opened.items ++ k ∷ [] → new.needs.items ≡ old.needs.items →
     Leads context old new slot slot (task.EndCall ∷ task.Node x false inner ∷ []) (past_pattern context (info_call (infos_of context) scope.calls_left old.opened.items k) (progress old slot))
@@ -300,12 +301,12 @@ leads_call context old new slot m k scope inner x none more less keeps absents a
     let one_less : length new.opened.items - 1 ≡ length old.opened.items = (let long = ap length pushed in omega (arith, long, length-append old.opened.items (k ∷ []))) in
     record {
       ends = same_progress
-          (sym (pat_called (layout_of context) context.unicode context.whole k q slot (draft_of new.body) (none k)) ∙ ap₂ (λ r d. with_pat (layout_of context) context.unicode context.whole r slot d) (sym is) same)
-          (ap (λ n. slot + n) (sym (slots_called (layout_of context) context.unicode context.whole k q (none k)) ∙ ap (slots_with (layout_of context)) (sym is)))
+          (sym (pat_called (layout_of context) context.unicode context.whole k q slot (draft_of new.body) none) ∙ ap₂ (λ r d. with_pat (layout_of context) context.unicode context.whole r slot d) (sym is) same)
+          (ap (λ n. slot + n) (sym (slots_called (layout_of context) context.unicode context.whole k q none) ∙ ap (slots_with (layout_of context)) (sym is)))
           (ap₂ take one_less pushed ∙ take-append_seam old.opened.items (k ∷ []));
       allowed = λ all among h. subst (λ r. IsLetThrough context scope.may_keep r all) (sym is)
           (called_allowed (layout_of context) all context.unicode scope.may_keep k q none (subst (λ b. IsLetThrough context b q all) keeps h.1.0));
-      fits = (let rooms = ap (room_of context) is in let extents = ap extent same in omega (arith, rooms, room_called (layout_of context) k q (none k), extents));
+      fits = (let rooms = ap (room_of context) is in let extents = ap extent same in omega (arith, rooms, room_called (layout_of context) k q none, extents));
       notes = same_noted (infos_of context) old.needs.items new.needs.items
           (λ tree_context. IsExpandedTarget tree_context scope.may_keep scope.may_be_absent (infos_of context) k) needs;
       stands = λ tree_context s stand.

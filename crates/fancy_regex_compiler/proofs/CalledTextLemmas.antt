@@ -1,7 +1,6 @@
 -- Groups that write nothing but characters.
 use Rattle.std.proofs.Common.{◌≡◌, ℕ, zero, suc, ◌+◌, ◌-◌, ◌≤◌, Bool, true, false, cond, List, [], ◌∷◌, ◌++◌, map, set, count_by, Option, Some, None, IfSome, Box, Vec, String, Global, refl, sym, ap, ap₂, ◌∙◌, subst, arith}
-use Rattle.std.specs.Prelude.{slice_get, slice_index, ◌==◌, ◌&&◌, nat_le, chars, string_bytes}
-use Rattle.std.proofs.lemmas.Bool.{true≢false, and_parts}
+use Rattle.std.specs.Prelude.{slice_get, slice_index, ◌==◌, nat_le, chars, string_bytes}
 use Rattle.std.proofs.lemmas.Bool.Decides.{nat_tests}
 use Rattle.std.proofs.lemmas.List.{map-append}
 use Rattle.std.proofs.lemmas.List.Sums.{sum_by-append, sum_by-cons}
@@ -17,57 +16,14 @@ use Rattle.fancy_regex_desugar.specs.Unfolded.{Written, cat_all, repeated}
 use Rattle.fancy_regex_info.specs.Infos.{InfoTree, info_of}
 use Rattle.fancy_regex_info.specs.declared.info.Info.{Info}
 use Rattle.fancy_regex_info.specs.declared.info.Info.TheViews.{out-Info}
-use Rattle.fancy_regex_program.specs.Code.{Layout, written_out, slots_in}
-use Rattle.fancy_regex_compiler.specs.Needs.{IsAllowedUnder}
-use Rattle.fancy_regex_compiler.specs.Extents.{room_with}
-use Rattle.fancy_regex_compiler.specs.CalledTexts.{is_silent, IsText, WritesText, IsFree, AreTexts}
+use Rattle.fancy_regex_program.specs.Code.{Layout, written_out}
+use Rattle.fancy_regex_compiler.specs.Rooms.{room_with}
+use Rattle.fancy_regex_compiler.specs.CalledTexts.{IsText, WritesText, IsFree, AreTexts}
 use Rattle.fancy_regex_compiler.specs.Known.{child, front_of, info_written, info_call}
-use Rattle.fancy_regex_compiler.specs.Writing.{Draft, draft_of, with_pat, Wrote}
-use Rattle.fancy_regex_compiler.specs.declared.emitter.Emitter.{Emitter}
-use Rattle.fancy_regex_compiler.specs.declared.emitter.Need.{Need}
-use Rattle.fancy_regex_compiler.proofs.Drafts.{pat_nothing, pat_cat, pat_called}
 use Rattle.fancy_regex_compiler.proofs.NodeLemmas.{front_leaf, front_concat, front_call}
 use Rattle.fancy_regex_compiler.proofs.RoomLemmas.{room_written_out}
 use Rattle.fancy_regex_compiler.proofs.RowLemmas.{call_opens}
 use Rattle.fancy_regex_compiler.proofs.TreeLemmas.{tree_literal, tree_repeat}
-
--- What is written of a pattern of which nothing is written.
-never : {P : Type 0} → false ≡ true → P
-never e = absurd (true≢false (sym e))
-
-silent_slots : (p : CorePattern) → is_silent p ≡ true → slots_in p ≡ 0
-silent_slots nothing s = refl
-silent_slots (cat a b) s = let both = and_parts (is_silent a) (is_silent b) s in omega (arith, silent_slots a both.0, silent_slots b both.1)
-silent_slots (called k a) s = silent_slots a s
-silent_slots _ s = never s
-
-silent_draft : (u w : Bool) (p : CorePattern) (slot : ℕ) (d : Draft) → is_silent p ≡ true → with_pat written_out u w p slot d ≡ d
-silent_draft u w nothing slot d s = pat_nothing written_out u w slot d
-silent_draft u w (cat a b) slot d s =
-    let both = and_parts (is_silent a) (is_silent b) s in
-    pat_cat written_out u w a b slot d ∙ ap (with_pat written_out u w b (slot + slots_in a)) (silent_draft u w a slot d both.0)
-    ∙ silent_draft u w b (slot + slots_in a) d both.1
-silent_draft u w (called k a) slot d s = pat_called written_out u w k a slot d refl ∙ silent_draft u w a slot d s
-silent_draft u w _ slot d s = never s
-
-silent_allowed : (all : List Need) (unicode keeps : Bool) (p : CorePattern) → is_silent p ≡ true → IsAllowedUnder written_out all unicode keeps p
-silent_allowed all unicode keeps nothing s = tt
-silent_allowed all unicode keeps (cat a b) s =
-    let both = and_parts (is_silent a) (is_silent b) s in (silent_allowed all unicode keeps a both.0, silent_allowed all unicode keeps b both.1)
-silent_allowed all unicode keeps (called k a) s = (λ j. refl, silent_allowed all unicode keeps a s)
-silent_allowed all unicode keeps _ s = never s
-
--- the same where no call stays
-pub allowed_silent : (layout : Layout) (all : List Need) (unicode keeps : Bool) (p : CorePattern) → layout ≡ written_out → is_silent p ≡ true →
-    IsAllowedUnder layout all unicode keeps p
-allowed_silent layout all unicode keeps p none s = subst (λ l. IsAllowedUnder l all unicode keeps p) (sym none) (silent_allowed all unicode keeps p s)
-
-pub wrote_silent : (layout : Layout) (u w : Bool) (e : Emitter) (slot : ℕ) (p : CorePattern) → layout ≡ written_out → is_silent p ≡ true → Wrote layout u w e e slot slot p
-wrote_silent layout u w e slot p none s = subst (λ l. Wrote l u w e e slot slot p) (sym none) (record {
-  draft = sym (silent_draft u w p slot (draft_of e.body) s);
-  slots = omega (arith, silent_slots p s);
-  opened = refl;
-})
 
 -- the room for the characters of a call
 pub text_fits : (layout : Layout) (n : ℕ) (p : CorePattern) → layout ≡ written_out → IsText n p → n ≤ room_with layout p
@@ -76,35 +32,23 @@ text_fits layout n p none h = omega (arith, h.fits, room_written_out p, ap (λ (
 -- One node and a row.
 text_nothing : IsText 0 nothing
 unfolding room
-text_nothing = record { fits = omega arith; silent = λ e. refl }
+text_nothing = record { fits = omega arith }
 
 text_one : (c : ℕ) → IsText 1 (read (literal c false))
 unfolding room
-text_one c = record { fits = omega arith; silent = λ e. absurd (omega (arith, e)) }
+text_one c = record { fits = omega arith }
 
 text_called : (k n : ℕ) (p : CorePattern) → IsText n p → IsText n (called k p)
 unfolding room
-text_called k n p h = record { fits = h.fits; silent = h.silent }
+text_called k n p h = record { fits = h.fits }
 
 room_row : (us : List Written) (u : Written) → room (cat_all (us ++ u ∷ [])) ≡ room (cat_all us) + room u.front
 unfolding room
 room_row [] u = omega arith
 room_row (x ∷ us) u = omega (arith, room_row us u)
 
-silent_both : (a b : Bool) → a ≡ true → b ≡ true → (a && b) ≡ true
-silent_both a b s t = ap₂ (λ x y. x && y) s t
-
-silent_row : (us : List Written) (u : Written) → is_silent (cat_all us) ≡ true → is_silent u.front ≡ true → is_silent (cat_all (us ++ u ∷ [])) ≡ true
-silent_row [] u s t = silent_both (is_silent u.front) true t refl
-silent_row (x ∷ us) u s t =
-    let both = and_parts (is_silent x.front) (is_silent (cat_all us)) s in
-    silent_both (is_silent x.front) (is_silent (cat_all (us ++ u ∷ []))) both.0 (silent_row us u both.1 t)
-
 text_row : (us : List Written) (u : Written) (a b n : ℕ) → a ≤ n → b ≤ n → n ≤ a + b → IsText a (cat_all us) → IsText b u.front → IsText n (cat_all (us ++ u ∷ []))
-text_row us u a b n first second sum h k = record {
-  fits = omega (arith, h.fits, k.fits, sum, room_row us u);
-  silent = λ none. silent_row us u (h.silent (omega (arith, none, first))) (k.silent (omega (arith, none, second)));
-}
+text_row us u a b n first second sum h k = record { fits = omega (arith, h.fits, k.fits, sum, room_row us u) }
 
 -- what is repeated no times
 pub front_never : (call : ℕ → CorePattern) (i : Info) (t : Box Expr Global) (lo hi : ℕ) (greedy : Bool) → (out-Info i).expr.now ≡ view.Repeat t lo hi greedy → lo ≡ 0 → hi ≡ 0 →
@@ -172,7 +116,7 @@ module _ (lengths : List (Option ℕ)) where
       (h call (λ j m at le. inner j m at (omega (arith, le, first)))) (k call (λ j m at le. inner j m at (omega (arith, le, second)))))
 
   -- The calls that are open.
-  other_open : (opened : List ℕ) (k j : ℕ) → (j ≡ k → ⊥) → is_at_call_limit (opened ++ k ∷ []) j ≡ is_at_call_limit opened j
+  pub other_open : (opened : List ℕ) (k j : ℕ) → (j ≡ k → ⊥) → is_at_call_limit (opened ++ k ∷ []) j ≡ is_at_call_limit opened j
   other_open opened k j other =
       let f : ℕ → ℕ = λ i. cond (i == j) 1 0 in
       let none : (k == j) ≡ false = grind (arith, nat_tests, other) in

@@ -14,7 +14,7 @@ use Rattle.fancy_regex_program.specs.Ops as op
 use Rattle.fancy_regex_program.specs.Ops.{op_of}
 use Rattle.fancy_regex_program.specs.Parts.{IsDelegateOf}
 use Rattle.fancy_regex_compiler.specs.Refusals.{TreeContext, IsExpandedBody}
-use Rattle.fancy_regex_compiler.specs.Extents.{room_with}
+use Rattle.fancy_regex_compiler.specs.Rooms.{room_with}
 use Rattle.fancy_regex_compiler.specs.Tasks.{IsLetThrough, LeadsTo, node_pattern, body_pattern}
 use Rattle.fancy_regex_compiler.specs.Writing.{Wrote, draft_of, layout_of, infos_of, added}
 use Rattle.std.specs.declared.alloc.Global.{Global}

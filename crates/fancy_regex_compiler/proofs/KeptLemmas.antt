@@ -13,25 +13,30 @@ use Rattle.fancy_regex_info.specs.Infos.{InfoTree}
 use Rattle.fancy_regex_program.specs.Assembled as assembled
 use Rattle.fancy_regex_program.specs.Assembled.{resolved, IsDraftOf, IsDrafted, IsDraftedBody, IsPlaceOf, IsMadeOf, IsAssembled, AreDistinct, AreDrafts, stretches, StandFrom}
 use Rattle.fancy_regex_program.specs.Code.{Layout, slots_with}
-use Rattle.fancy_regex_program.specs.Layouts.{AreApart, CallsStay, main_code}
+use Rattle.fancy_regex_program.specs.Layouts.{AreApart, CallsAreLaidOut, main_code}
 use Rattle.fancy_regex_program.specs.Ops as op
 use Rattle.fancy_regex_program.specs.Ops.{Op, Place, ops_of, place_of}
 use Rattle.fancy_regex_program.specs.Shapes.{IsAllowed}
 use Rattle.fancy_regex_program.specs.declared.insn.Callee.{Callee}
 use Rattle.fancy_regex_program.specs.declared.insn.Insn.{Insn}
-use Rattle.fancy_regex_program.proofs.Resolved.{resolved_made, resolved_slots, stays_drafted}
-use Rattle.fancy_regex_compiler.specs.Kept.{called_pattern, pattern_at, with_pattern, bodies_of, IsMarked, HasBodies, IsMain, IsMetUnder, IsNeededBody, IsPlaceIn, ArePlaces, IsBodyIn, KeepsCallsOf}
+use Rattle.fancy_regex_program.proofs.Resolved.{resolved_made, resolved_slots}
+use Rattle.fancy_regex_compiler.specs.Kept.{called_pattern, pattern_at, AreWrittenOutIn, with_pattern, bodies_of, IsMarked, HasBodies, IsMain, IsMetUnder, IsNeededBody, IsPlaceIn, ArePlaces, IsBodyIn, KeepsCallsOf}
 use Rattle.fancy_regex_compiler.specs.Known.{pat_with}
-use Rattle.fancy_regex_compiler.specs.Needs.{NoneStays, IsAllowedUnder}
+use Rattle.fancy_regex_compiler.specs.Inlined.{is_inlined, AreInlined, AreNamed}
+use Rattle.fancy_regex_compiler.specs.Needs.{IsAllowedUnder}
 use Rattle.fancy_regex_compiler.specs.Tasks.{IsLetThrough}
-use Rattle.fancy_regex_compiler.specs.Writing.{Draft, with_op, draft_place, info_at, infos_of, layout_of}
+use Rattle.fancy_regex_compiler.specs.Inlined.{draft_place, drafted_place, layout_in}
+use Rattle.fancy_regex_compiler.specs.Writing.{Draft, with_op, info_at, infos_of, layout_of}
 use Rattle.fancy_regex_compiler.specs.declared.calls.Bodies.{Bodies}
 use Rattle.fancy_regex_compiler.specs.declared.calls.Body.{Body}
 use Rattle.fancy_regex_compiler.specs.declared.emitter.CompileContext.{CompileContext}
 use Rattle.fancy_regex_compiler.specs.declared.emitter.Need.{Need}
 use Rattle.fancy_regex_compiler.proofs.AddedBodies.{pattern_is}
 use Rattle.fancy_regex_compiler.proofs.MetLemmas.{contains_at, at_contained}
-use Rattle.fancy_regex_compiler.proofs.NeedsMet.{allowed_by_needs, calls_stay, body_is_allowed}
+use Rattle.fancy_regex_compiler.proofs.InlinedDrafts.{whole_has_drafts, body_has_drafts}
+use Rattle.fancy_regex_compiler.proofs.InlinedLemmas.{inlined_leads, room_at_first}
+use Rattle.fancy_regex_compiler.proofs.NeedLemmas.{only_inlined, inlined_none}
+use Rattle.fancy_regex_compiler.proofs.NeedsMet.{allowed_by_needs, calls_laid_out, body_is_allowed}
 use Rattle.fancy_regex_compiler.proofs.StackLemmas.{stacked_at, stacked_on}
 
 -- an element of a list that is long enough
@@ -71,11 +76,20 @@ shown : (o : Option Place) → is_some o ≡ true → Shown o
 shown None s = absurd (true≢false (sym s))
 shown (Some c) s = record { place = c; is = refl }
 
+drafts_named : (drafts : List (Option (Arc Callee Global))) → AreNamed drafts → (k : ℕ) (c : Place) → layout_in drafts k ≡ Some c → c.start ≡ k
+drafts_named [] named k c is = absurd (none-some c is)
+drafts_named (d ∷ ds) named k c is = at (slice_get (d ∷ ds) k) refl
+  where
+    at : (o : Option (Option (Arc Callee Global))) → slice_get (d ∷ ds) k ≡ o → c.start ≡ k
+    at None e = ap (λ (p : Place). p.start) (sym (same_Some _ c (sym (ap (drafted_place k) e) ∙ is)))
+    at (Some None) e = absurd (none-some c (sym (ap (drafted_place k) e) ∙ is))
+    at (Some (Some draft)) e = ap (λ (p : Place). p.start) (sym (same_Some (draft_place draft) c (sym (ap (drafted_place k) e) ∙ is))) ∙ named k draft e
+
 regroup : (a b c : List Op) → (a ++ b) ++ c ≡ a ++ (b ++ c)
 regroup a b c = append_assoc a b c
 
 module _ (context : CompileContext) (x : InfoTree) (anchored : Bool) (slot : ℕ) (d0 d1 d2 : Draft) (bodies : Bodies) (all : List Need) (table : Layout) (end : ℕ)
-    (insns : List Insn) (some : 0 < length context.groups.now.items) (drafted : length context.drafts.now.items ≡ length context.groups.now.items)
+    (insns : List Insn) (are : AreInlined (infos_of context) context.inlined.now.rooms.items context.inlined.now.known) (some : 0 < length context.groups.now.items) (drafted : length context.drafts.now.items ≡ length context.groups.now.items)
     (main : IsMain context x anchored d0 slot) (written : HasBodies context d0.ops slot d1 bodies) (ended : d2 ≡ with_op op.finish d1)
     (met : (n : Need) → Contains all n → IsMetUnder context bodies all n) (needed : (b : Body) → Contains bodies.list.items b → IsNeededBody all b)
     (main_allowed : IsLetThrough context true (pat_with (infos_of context) x) all)
@@ -99,86 +113,112 @@ module _ (context : CompileContext) (x : InfoTree) (anchored : Bool) (slot : ℕ
   counted : length infos ≡ length context.groups.now.items
   counted = length-map context.groups.now.items info_at
 
-  -- each group has a draft
-  drafted_at : (k : ℕ) → k < length infos → is_some (L k) ≡ true
-  drafted_at k low =
-      let there : k < length context.drafts.now.items = omega (arith, low, counted, drafted) in
-      let f = found context.drafts.now.items k there in
-      ap (λ o. is_some (option_map draft_place o)) f.at
+  abbrev rooms : List (Option ℕ)
+  rooms = context.inlined.now.rooms.items
 
-  not_none : NoneStays L → ⊥
-  not_none none =
-      let low : 0 < length infos = omega (arith, some, counted) in
-      true≢false (sym (drafted_at 0 low) ∙ ap is_some (none 0))
+  abbrev known : ℕ
+  known = context.inlined.now.known
+
+  many : 0 < length context.drafts.now.items
+  many = omega (arith, some, drafted)
+
+  -- a call is written out only where its group is one of those, and there it is
+  out : (k : ℕ) → L k ≡ None → is_inlined rooms k ≡ true
+  out k none = only_inlined rooms context.drafts.now.items context.laid_out many k none
+
+  none_out : (k : ℕ) → is_inlined rooms k ≡ true → L k ≡ None
+  none_out k is =
+      inlined_none rooms context.drafts.now.items context.laid_out k (λ none. absurd (omega (arith, none, many))) is
 
   -- each body has a place, and so has each group that is needed
   body_has : (b : Body) → Contains list b → is_some (table b.group) ≡ true
   body_has b there = places.covers there.0 b there.1 (at_contained list b there)
 
-  group_has : (n : Need) → Contains all n → is_some (table n.group) ≡ true
-  group_has n there =
-      let has = written.marked n.group (met n there).marked in
+  group_has : (n : Need) → Contains all n → is_some (L n.group) ≡ true → is_some (table n.group) ≡ true
+  group_has n there stays =
+      let has = written.marked n.group ((met n there).marked stays) in
       subst (λ k. is_some (table k) ≡ true) has.group (body_has has.body has.there)
 
   body_in : (b : Body) → Contains list b → b.group < length infos
   body_in b there = All-contains (λ (v : Body). v.group < length infos) list b written.groups there
 
+  body_stays : (b : Body) → Contains list b → is_some (L b.group) ≡ true
+  body_stays b there = All-contains (λ (v : Body). is_some (L v.group) ≡ true) list b written.drafted there
+
   named : (k : ℕ) (c : Place) → L k ≡ Some c → c.start ≡ k
-  named k c is =
-      let made = made_by draft_place (slice_get context.drafts.now.items k) c is in
-      ap (λ (p : Place). p.start) (sym made.is) ∙ context.are_named k made.it made.at
+  named = drafts_named context.drafts.now.items context.are_named
 
-  are_drafted : IsDrafted L table
-  are_drafted = record {
-    named = named;
-    covers = λ k has.
-        let s = shown (table k) has in
-        let it = places.each k s.place s.is in
-        drafted_at k (subst (λ j. j < length infos) it.group (body_in it.body (contains_at list it.index it.body it.at)));
-  }
+  covers : (k : ℕ) → is_some (table k) ≡ true → is_some (L k) ≡ true
+  covers k has =
+      let s = shown (table k) has in
+      let it = places.each k s.place s.is in
+      subst (λ j. is_some (L j) ≡ true) it.group (body_stays it.body (contains_at list it.index it.body it.at))
 
-  main_stays : CallsStay table pattern
-  main_stays = calls_stay L table all u not_none group_has true pattern main_allowed
+  are_drafted : IsDrafted L table (is_inlined rooms)
+  are_drafted = record { named = named; covers = covers; none = none_out }
+
+  -- what is written out has no place
+  none_placed : (k : ℕ) → is_inlined rooms k ≡ true → table k ≡ None
+  none_placed k is = at (table k) refl
+    where
+      at : (o : Option Place) → table k ≡ o → table k ≡ None
+      at None e = e
+      at (Some c) e = absurd (true≢false (sym (covers k (ap is_some e)) ∙ ap is_some (none_out k is)))
+
+  main_laid_out : CallsAreLaidOut table (is_inlined rooms) pattern
+  main_laid_out = calls_laid_out L table all u rooms out group_has true pattern main_allowed
 
   -- a body is let through as the call that needs it
   body_under : (b : Body) (there : Contains list b) → IsLetThrough context (needed b there).need.may_keep (pattern_at infos b.group) all
   body_under b there =
       let n = needed b there in
-      subst (λ k. IsLetThrough context n.need.may_keep (pattern_at infos k) all) n.group (met n.need n.there).allowed
+      subst (λ k. IsLetThrough context n.need.may_keep (pattern_at infos k) all) n.group ((met n.need n.there).allowed (subst (λ k. is_some (L k) ≡ true) (sym n.group) (body_stays b there)))
 
-  body_stays : (b : Body) → Contains list b → CallsStay table (pattern_at infos b.group)
-  body_stays b there = calls_stay L table all u not_none group_has (needed b there).need.may_keep (pattern_at infos b.group) (body_under b there)
+  body_laid_out : (b : Body) → Contains list b → CallsAreLaidOut table (is_inlined rooms) (pattern_at infos b.group)
+  body_laid_out b there = calls_laid_out L table all u rooms out group_has (needed b there).need.may_keep (pattern_at infos b.group) (body_under b there)
+
+  met_under : (n : Need) → Contains all n → is_some (L n.group) ≡ true → IsAllowedUnder L all u n.may_keep (pattern_at infos n.group)
+  met_under n there stays = (met n there).allowed stays
 
   body_allowed : (b : Body) (there : Contains list b) → IsAllowed u (needed b there).need.may_keep (pattern_at infos b.group)
   body_allowed b there =
       let f = found infos b.group (body_in b there) in
       let is = pattern_is infos b.group f.it f.at in
       let keeps = (needed b there).need.may_keep in
-      subst (IsAllowed u keeps) (sym is) (body_is_allowed u L all keeps f.it (subst (IsAllowedUnder L all u keeps) is (body_under b there)))
+      subst (IsAllowed u keeps) (sym is)
+      (body_is_allowed u L all infos rooms known are out met_under keeps f.it (subst (IsAllowedUnder L all u keeps) is (body_under b there)))
 
-  each_in : All (IsBodyIn u table infos) (bodies_of infos list)
-  each_in = All-map (IsBodyIn u table infos) (with_pattern infos) list
-      (All-weaker (Contains list) (λ (b : Body). IsBodyIn u table infos (with_pattern infos b))
+  each_in : All (IsBodyIn u table (is_inlined rooms) infos) (bodies_of infos list)
+  each_in = All-map (IsBodyIn u table (is_inlined rooms) infos) (with_pattern infos) list
+      (All-weaker (Contains list) (λ (b : Body). IsBodyIn u table (is_inlined rooms) infos (with_pattern infos b))
       (λ b there. record {
         group = body_in b there;
         pattern = refl;
-        calls = body_stays b there;
+        calls = body_laid_out b there;
         keeps = (needed b there).need.may_keep;
         allowed = body_allowed b there;
       })
       list (All-contains_itself list))
 
+  body_drafted : (b : Body) → Contains list b → AreDrafts L table (pattern_at infos b.group)
+  body_drafted b there =
+      let f = found infos b.group (body_in b there) in
+      let is = pattern_is infos b.group f.it f.at in
+      subst (AreDrafts L table) (sym is)
+      (body_has_drafts infos rooms known are L table are_drafted none_placed f.it
+      (subst (CallsAreLaidOut table (is_inlined rooms)) is (body_laid_out b there)))
+
   each_drafted : All (IsDraftedBody L table) (bodies_of infos list)
   each_drafted = All-map (IsDraftedBody L table) (with_pattern infos) list
       (All-weaker (Contains list) (λ (b : Body). IsDraftedBody L table (with_pattern infos b))
       (λ b there. record {
-        own = is_draft b.group (L b.group) (table b.group) (drafted_at b.group (body_in b there)) (body_has b there) (named b.group);
-        calls = stays_drafted L table are_drafted (pattern_at infos b.group) (body_stays b there);
+        own = is_draft b.group (L b.group) (table b.group) (body_stays b there) (body_has b there) (named b.group);
+        calls = body_drafted b there;
       })
       list (All-contains_itself list))
 
   main_drafted : AreDrafts L table pattern
-  main_drafted = stays_drafted L table are_drafted pattern main_stays
+  main_drafted = whole_has_drafts infos rooms known are L table are_drafted none_placed x main_laid_out
 
   abbrev MadeWith : Layout → List Op → Type 0
   MadeWith layout code = IsMadeOf (in_class u) (folded u) context.whole layout anchored (length infos) pattern (bodies_of infos list) code
@@ -245,10 +285,17 @@ module _ (context : CompileContext) (x : InfoTree) (anchored : Bool) (slot : ℕ
     layout = table;
     bodies = bodies_of infos list;
     code = assembled_now;
-    calls = main_stays;
+    is_written_out = is_inlined rooms;
+    written_out = record {
+      rank = are.rank;
+      none = none_placed;
+      leads = inlined_leads infos rooms known are;
+      small = room_at_first infos rooms known are table none_placed;
+    };
+    calls = main_laid_out;
     each = each_in;
     distinct = distinct_now;
   }
 
   pub kept_allowed : IsAllowed u true pattern
-  kept_allowed = allowed_by_needs u L all infos (λ n there. (met n there).allowed) x main_allowed
+  kept_allowed = allowed_by_needs u L all infos rooms known are out met_under x main_allowed

@@ -1,68 +1,58 @@
 -- How long a program is whose calls stay.
-use Rattle.std.proofs.Common.{◌≡◌, ℕ, zero, suc, ◌+◌, ◌*◌, ◌<◌, ◌≤◌, Bool, true, false, cond, List, [], ◌∷◌, ◌++◌, map, length, get_or, Option, Some, None, option_map, sum, refl, sym, ap, ap₂, subst, ◌∙◌, arith, length-append}
+use Rattle.std.proofs.Common.{◌≡◌, ℕ, zero, suc, ◌+◌, ◌*◌, ◌<◌, ◌≤◌, Bool, true, List, [], ◌∷◌, ◌++◌, map, length, get_or, Option, Some, None, option_map, sum, refl, sym, ap, ap₂, subst, ⊎_elim, ◌∙◌, arith, length-append}
 use Rattle.std.specs.Prelude.{All, is_some, slice_get}
 use Rattle.std.proofs.Math.ListN.{set}
 use Rattle.std.proofs.lemmas.List.{get_or-set_other, length-map, length-set}
 use Rattle.std.proofs.lemmas.List.Elements.{All-head, All-tail, All-get_or}
 use Rattle.std.proofs.lemmas.List.Sums.{sum_by-set, sum-map}
 use Rattle.std.proofs.lemmas.Option.{get_or_from_slice_get, slice_get_within, slice_get-map}
-use Rattle.fancy_regex_tree.specs.Tree as tree
-use Rattle.fancy_regex_tree.specs.Tree.{Text, Tree, Trees, no_trees, more_trees}
-use Rattle.fancy_regex_meaning.specs.Choices.{nodes_with, nodes_of_call}
-use Rattle.fancy_regex_meaning.specs.Groups.{Pattern, group_count}
+use Rattle.fancy_regex_tree.specs.Tree.{Text, Tree}
+use Rattle.fancy_regex_meaning.specs.Choices.{nodes_with}
+use Rattle.fancy_regex_meaning.specs.Groups.{Pattern}
 use Rattle.fancy_regex_meaning.specs.Sizes.{target}
 use Rattle.fancy_regex_meaning.specs.Ways.{max_open_calls}
 use Rattle.fancy_regex_class.specs.Classes.{in_class, folded}
-use Rattle.fancy_regex_desugar.specs.CorePatterns.{CorePattern, fail, cat, tail, called}
-use Rattle.fancy_regex_desugar.specs.Delegates.{is_delegated, begins_tail}
+use Rattle.fancy_regex_desugar.specs.CorePatterns.{CorePattern, nothing, cat, back, called}
 use Rattle.fancy_regex_desugar.specs.ProgramSizes.{room}
-use Rattle.fancy_regex_desugar.specs.Unfolded.{cat_all, written, written_all, written_call, written_plain, written_tail, written_whole, core_pattern_of}
-use Rattle.fancy_regex_desugar.proofs.ProgramSizeProofs.{unfolded_has_room}
+use Rattle.fancy_regex_desugar.specs.Unfolded.{written_call, written_whole, core_pattern_of}
+use Rattle.fancy_regex_desugar.proofs.ProgramSizeProofs.{Fits, part_has_room, whole_has_room}
 use Rattle.fancy_regex_program.specs.Assembled.{Body, AreDistinct, return_code, stretch, stretches, IsMadeOf, IsBodyOf}
 use Rattle.fancy_regex_program.specs.Code.{Layout, waits_with, flushed, closed, code_with, opening, closing}
-use Rattle.fancy_regex_program.specs.Layouts.{CallsStay, body_with_calls, main_code}
+use Rattle.fancy_regex_program.specs.Layouts.{IsLaidOut, CallsAreLaidOut, body_pattern, main_code}
 use Rattle.fancy_regex_program.specs.Ops as op
 use Rattle.fancy_regex_program.specs.Ops.{Op, Place}
 use Rattle.fancy_regex_program.proofs.WrittenParts.{PartByPart, of_tree, of_whole}
-use Rattle.fancy_regex_compiled.specs.Programs.{nodes_with_calls}
-use Rattle.fancy_regex_compiler.specs.Extents.{room_at_call, room_with}
+use Rattle.fancy_regex_compiled.specs.Programs.{nodes_of_kept_call, nodes_with_calls}
+use Rattle.fancy_regex_program.proofs.WrittenOut.{is_call}
+use Rattle.fancy_regex_compiler.specs.Rooms.{room_at_call, room_with}
+use Rattle.fancy_regex_compiler.specs.Inlined.{most_room}
 use Rattle.fancy_regex_compiler.proofs.LengthLemmas.{opening_long, closing_long}
 use Rattle.fancy_regex_compiler.proofs.RoomLemmas.{code_fits}
 
--- a call of which nothing is written out
-abbrev kept : ℕ → CorePattern
-kept j = called j fail
+-- A pattern with so much room, and what stands for a call that has as much as one that is written out where calls stay.
+unfoldable filler : ℕ → CorePattern
+filler zero = nothing
+filler (suc n) = cat (back 1) (filler n)
 
-either_at_most : (b : Bool) (p q : CorePattern) (most : ℕ) → room p ≤ most → room q ≤ most → room (cond b p q) ≤ most
-either_at_most true p q most h k = h
-either_at_most false p q most h k = k
+filler_room : (n : ℕ) → room (filler n) ≡ n
+unfolding room filler
+filler_room zero = refl
+filler_room (suc n) = omega (arith, filler_room n)
 
-module _ (groups : List Tree) where
-  -- The beginning of a tail takes one instruction.
-  room_row : (n : ℕ) (ts : Trees) → room (written_tail groups kept n ts) ≤ room (cat_all (written_all groups kept n ts)) + 1
-  unfolding room written written_tail
-  room_row n no_trees = omega arith
-  room_row n (more_trees t ts) =
-      let row = cat_all (written_all groups kept n (more_trees t ts)) in
-      either_at_most (begins_tail (more_trees t ts)) (written_plain groups kept n (more_trees t ts))
-      (cat (written groups kept n t).front (written_tail groups kept (n + group_count t) ts)) (room row + 1)
-      (either_at_most (is_delegated false (tree.concat (more_trees t ts))) (tail (tree.concat (more_trees t ts)) row) row (room row + 1) (omega arith) (omega arith))
-      (omega (arith, room_row (n + group_count t) ts))
+unfoldable stand : ℕ → CorePattern
+stand k = called k (filler most_room)
 
-  room_whole : (n : ℕ) (t : Tree) → room (written_whole groups kept n t) ≤ room (written groups kept n t).front + 1
-  unfolding written written_whole
-  room_whole n (tree.concat ts) = room_row n ts
-  room_whole n t = omega arith
+stand_room : (k : ℕ) → room (stand k) ≡ most_room
+unfolding room stand
+stand_room k = filler_room most_room
 
-  -- against the nodes, of which a call is one
-  room_part : (n : ℕ) (t : Tree) → room (written groups kept n t).front + 3 ≤ 16 * nodes_with (λ k. 1) t
-  unfolding written_call nodes_of_call
-  room_part n t = (unfolded_has_room groups 0 [] n t).0
+stand_fits : (k : ℕ) → Fits (stand k) nodes_of_kept_call
+stand_fits k = record { is = omega (arith, stand_room k) }
 
-module _ (layout : Layout) where
-  -- Where the calls of the first pattern stay, it has room in that of the second.
+module _ (layout : Layout) (is_written_out : ℕ → Bool) where
+  -- Where the calls of the first pattern stay or are of such groups, it has room in that of the second.
   abbrev FitsIn : CorePattern → CorePattern → Type 0
-  FitsIn p q = CallsStay layout p → room_with layout p ≤ room q
+  FitsIn p q = CallsAreLaidOut layout is_written_out p → room_with layout p ≤ room q
 
   fit_parts : PartByPart FitsIn
   unfolding room room_with
@@ -90,32 +80,39 @@ module _ (layout : Layout) where
     of_absent = λ a b h s. omega (arith, h s);
   }
 
-  fit_at_call : (o : Option Place) (n : ℕ) → is_some o ≡ true → room_at_call o n ≤ 12
-  fit_at_call None n stays = absurd cc
-  fit_at_call (Some c) n stays = omega arith
+  module _ (groups : List Tree) (small : (k : ℕ) → is_written_out k ≡ true → room_with layout (written_call groups (max_open_calls groups) [] k) ≤ most_room) where
+    abbrev first : ℕ → CorePattern
+    first = written_call groups (max_open_calls groups) []
 
-  fit_call : (k : ℕ) (a : CorePattern) → FitsIn (called k a) (kept k)
-  unfolding room room_with
-  fit_call k a stays = fit_at_call (layout k) (room_with layout a) stays
+    kept_room : (o : Option Place) (n : ℕ) → is_some o ≡ true → room_at_call o n ≤ most_room
+    kept_room None n stays = absurd cc
+    kept_room (Some c) n stays = omega arith
 
-  fit_written_call : (groups : List Tree) (m : ℕ) (opened : List ℕ) (k : ℕ) → FitsIn (written_call groups m opened k) (kept k)
-  unfolding written_call
-  fit_written_call groups zero opened k = fit_call k fail
-  fit_written_call groups (suc m) opened k = fit_call k _
+    fit_kept : (k : ℕ) (p : CorePattern) → is_some (layout k) ≡ true → room_with layout (called k p) ≤ most_room
+    unfolding room_with
+    fit_kept k p stays = kept_room (layout k) (room_with layout p) stays
 
-  -- a whole pattern
-  room_kept : (pattern : Pattern) → CallsStay layout (core_pattern_of pattern) → room_with layout (core_pattern_of pattern) + 2 ≤ 16 * nodes_with (λ k. 1) pattern.tree
-  unfolding core_pattern_of
-  room_kept pattern stays =
-      let fits = of_whole FitsIn fit_parts pattern.groups (written_call pattern.groups (max_open_calls pattern.groups) []) kept
-      (fit_written_call pattern.groups (max_open_calls pattern.groups) []) pattern.first_group pattern.tree stays in
-      omega (arith, fits, room_whole pattern.groups pattern.first_group pattern.tree, room_part pattern.groups pattern.first_group pattern.tree)
+    fit_first : (k : ℕ) → FitsIn (first k) (stand k)
+    fit_first k laid_out =
+        let call = is_call groups (max_open_calls groups) [] k in
+        let is : IsLaidOut layout is_written_out k = subst (CallsAreLaidOut layout is_written_out) call.is laid_out in
+        let low : room_with layout (first k) ≤ most_room =
+        ⊎_elim (λ (stays : is_some (layout k) ≡ true). subst (λ p. room_with layout p ≤ most_room) (sym call.is) (fit_kept k call.inside stays))
+        (λ (out : is_written_out k ≡ true). small k out) is in
+        omega (arith, low, stand_room k)
 
-  -- the body of a group
-  room_body : (groups : List Tree) (k : ℕ) (t : Tree) → CallsStay layout (body_with_calls groups k t) → room_with layout (body_with_calls groups k t) + 3 ≤ 16 * nodes_with (λ j. 1) t
-  room_body groups k t stays =
-      let fits = (of_tree FitsIn fit_parts groups kept kept (λ j. fit_call j fail) (k + 1) t).front stays in
-      omega (arith, fits, room_part groups (k + 1) t)
+    -- a whole pattern, and the body of a group
+    room_kept : (n : ℕ) (t : Tree) → CallsAreLaidOut layout is_written_out (written_whole groups first n t) → room_with layout (written_whole groups first n t) + 3 ≤ 16 * nodes_with (λ k. nodes_of_kept_call) t
+    room_kept n t laid_out =
+        let fits = of_whole FitsIn fit_parts groups first stand fit_first n t laid_out in
+        let whole = (whole_has_room groups stand (λ k. nodes_of_kept_call) stand_fits n t).is in
+        omega (arith, fits, whole)
+
+    room_body : (k : ℕ) (t : Tree) → CallsAreLaidOut layout is_written_out (body_pattern groups k t) → room_with layout (body_pattern groups k t) + 3 ≤ 16 * nodes_with (λ j. nodes_of_kept_call) t
+    room_body k t laid_out =
+        let fits = (of_tree FitsIn fit_parts groups first stand fit_first (k + 1) t).front laid_out in
+        let part = (part_has_room groups stand (λ j. nodes_of_kept_call) stand_fits (k + 1) t).front in
+        omega (arith, fits, part)
 
 -- the weights of the bodies' groups
 abbrev total : List ℕ → List Body → ℕ
@@ -168,41 +165,43 @@ module _ (u w : Bool) (layout : Layout) where
         length-append body e,
       )
 
-  module _ (groups : List Tree) where
+  module _ (is_written_out : ℕ → Bool) (groups : List Tree) (small : (k : ℕ) → is_written_out k ≡ true → room_with layout (written_call groups (max_open_calls groups) [] k) ≤ most_room) where
     -- what the body of a group weighs: its nodes, and one for its return
     abbrev weight : Tree → ℕ
-    weight t = 1 + nodes_with (λ k. 1) t
+    weight t = 1 + nodes_with (λ k. nodes_of_kept_call) t
 
     weight_at : (b : Body) (t : Tree) → target groups b.group ≡ Some t → get_or (map weight groups) b.group 0 ≡ weight t
     weight_at b t is = get_or_from_slice_get (map weight groups) b.group (weight t) 0 (slice_get-map weight groups b.group ∙ ap (option_map weight) is)
 
-    body_long : (b : Body) → IsBodyOf layout groups b → length (stretch (in_class u) (folded u) w layout b) ≤ 16 * get_or (map weight groups) b.group 0
+    body_long : (b : Body) → IsBodyOf layout is_written_out groups b → length (stretch (in_class u) (folded u) w layout b) ≤ 16 * get_or (map weight groups) b.group 0
     body_long b is =
-        let stays = subst (CallsStay layout) is.pattern is.calls in
-        omega (arith, stretch_long b, ap (room_with layout) is.pattern, room_body layout groups b.group is.tree stays, weight_at b is.tree is.is_target)
+        let laid_out = subst (CallsAreLaidOut layout is_written_out) is.pattern is.calls in
+        omega (arith, stretch_long b, ap (room_with layout) is.pattern, room_body layout is_written_out groups small b.group is.tree laid_out, weight_at b is.tree is.is_target)
 
-    row_long : (bs : List Body) → All (IsBodyOf layout groups) bs → length (stretches (in_class u) (folded u) w layout bs) ≤ 16 * total (map weight groups) bs
+    row_long : (bs : List Body) → All (IsBodyOf layout is_written_out groups) bs → length (stretches (in_class u) (folded u) w layout bs) ≤ 16 * total (map weight groups) bs
     row_long [] each = omega arith
     row_long (b ∷ bs) each =
         omega (
           arith,
-          body_long b (All-head (IsBodyOf layout groups) b bs each),
-          row_long bs (All-tail (IsBodyOf layout groups) b bs each),
+          body_long b (All-head (IsBodyOf layout is_written_out groups) b bs each),
+          row_long bs (All-tail (IsBodyOf layout is_written_out groups) b bs each),
           length-append (stretch (in_class u) (folded u) w layout b) (stretches (in_class u) (folded u) w layout bs),
         )
 
-    group_there : (bs : List Body) → All (IsBodyOf layout groups) bs → (j : ℕ) (c : Body) → slice_get bs j ≡ Some c → c.group < length (map weight groups)
+    group_there : (bs : List Body) → All (IsBodyOf layout is_written_out groups) bs → (j : ℕ) (c : Body) → slice_get bs j ≡ Some c → c.group < length (map weight groups)
     group_there bs each j c at =
-        let P = IsBodyOf layout groups in
-        let is : IsBodyOf layout groups c = subst P (get_or_from_slice_get bs j c c at) (All-get_or P bs j c (slice_get_within bs j c at) each) in
+        let P = IsBodyOf layout is_written_out groups in
+        let is : IsBodyOf layout is_written_out groups c = subst P (get_or_from_slice_get bs j c c at) (All-get_or P bs j c (slice_get_within bs j c at) each) in
         omega (arith, slice_get_within groups c.group is.tree is.is_target, length-map groups weight)
 
   -- A program of a tree's pattern has few instructions: sixteen for each node and each return, and sixteen more.
-  pub assembled_is_few : (anchored : Bool) (count : ℕ) (pattern : Pattern) (bodies : List Body) (code : List Op) →
-      IsMadeOf (in_class u) (folded u) w layout anchored count (core_pattern_of pattern) bodies code → CallsStay layout (core_pattern_of pattern) →
-      All (IsBodyOf layout pattern.groups) bodies → AreDistinct bodies →
+  pub assembled_is_few : (is_written_out : ℕ → Bool) (anchored : Bool) (count : ℕ) (pattern : Pattern) (bodies : List Body) (code : List Op) →
+      IsMadeOf (in_class u) (folded u) w layout anchored count (core_pattern_of pattern) bodies code →
+      ((k : ℕ) → is_written_out k ≡ true → room_with layout (written_call pattern.groups (max_open_calls pattern.groups) [] k) ≤ most_room) →
+      CallsAreLaidOut layout is_written_out (core_pattern_of pattern) → All (IsBodyOf layout is_written_out pattern.groups) bodies → AreDistinct bodies →
       length code ≤ 16 * (nodes_with_calls pattern + 1)
-  assembled_is_few anchored count pattern bodies code made stays each distinct =
+  unfolding core_pattern_of
+  assembled_is_few is_written_out anchored count pattern bodies code made small laid_out each distinct =
       let main = main_code (in_class u) (folded u) w layout anchored count (core_pattern_of pattern) in
       let row = stretches (in_class u) (folded u) w layout bodies in
       let groups = pattern.groups in
@@ -213,8 +212,8 @@ module _ (u w : Bool) (layout : Layout) where
         length-append main (row ++ end),
         length-append row end,
         main_long anchored count (core_pattern_of pattern),
-        room_kept layout pattern stays,
-        row_long groups bodies each,
-        total_fits (map (weight groups) groups) bodies (group_there groups bodies each) distinct,
-        sum-map (weight groups) groups,
+        room_kept layout is_written_out groups small pattern.first_group pattern.tree laid_out,
+        row_long is_written_out groups small bodies each,
+        total_fits (map (weight is_written_out groups small) groups) bodies (group_there is_written_out groups small bodies each) distinct,
+        sum-map (weight is_written_out groups small) groups,
       )

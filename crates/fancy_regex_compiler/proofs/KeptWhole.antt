@@ -1,16 +1,17 @@
 -- The program of a whole pattern, whose calls are written out or stay calls, and that of a tree.
-use Rattle.std.proofs.Common.{◌≡◌, ℕ, ◌+◌, ◌*◌, ◌<◌, ◌≤◌, Bool, true, not, List, length, get_or, Option, Some, None, refl, sym, ap, ap₂, subst, ◌∙◌, arith, inl, inr}
+use Rattle.std.proofs.Common.{◌≡◌, ℕ, ◌+◌, ◌*◌, ◌<◌, ◌≤◌, Bool, true, not, List, [], length, get_or, Option, Some, None, refl, sym, ap, ap₂, subst, ◌∙◌, arith, inl, inr}
 use Rattle.std.specs.Prelude.{All, slice_get}
 use Rattle.std.proofs.lemmas.List.{length-map}
 use Rattle.std.proofs.lemmas.List.Elements.{All-weaker}
-use Rattle.std.proofs.lemmas.Option.{slice_get-get_or}
+use Rattle.std.proofs.lemmas.Option.{slice_get-get_or, slice_get_within, same_Some}
 use Rattle.fancy_regex_tree.specs.Tree.{Tree}
 use Rattle.fancy_regex_meaning.specs.Groups.{Pattern}
 use Rattle.fancy_regex_meaning.specs.Sizes.{target}
+use Rattle.fancy_regex_meaning.specs.Ways.{max_open_calls}
 use Rattle.fancy_regex_class.specs.Classes.{in_class, folded}
 use Rattle.fancy_regex_desugar.specs.CorePatterns.{CorePattern}
 use Rattle.fancy_regex_desugar.specs.ProgramSizes.{room}
-use Rattle.fancy_regex_desugar.specs.Unfolded.{pat_for, core_pattern_of}
+use Rattle.fancy_regex_desugar.specs.Unfolded.{pat_for, written, written_call, core_pattern_of}
 use Rattle.fancy_regex_desugar.proofs.ProgramSizeProofs.{pattern_size_is_bounded}
 use Rattle.fancy_regex_analysis.proofs.AnalysisErrorLemmas.{no_node_shows}
 use Rattle.fancy_regex_info.specs.Analysis.{analysis}
@@ -19,7 +20,7 @@ use Rattle.fancy_regex_info.specs.Views.{pattern_in}
 use Rattle.fancy_regex_info.specs.declared.error.CompileError.TheVariants.{InvalidBackref}
 use Rattle.fancy_regex_program.specs.Assembled.{Body, IsMadeOf, IsAssembled, IsBodyOf}
 use Rattle.fancy_regex_program.specs.Code.{Layout}
-use Rattle.fancy_regex_program.specs.Layouts.{CallsStay, body_with_calls}
+use Rattle.fancy_regex_program.specs.Layouts.{CallsAreLaidOut, AreWrittenOut, body_pattern}
 use Rattle.fancy_regex_program.specs.Ops.{op_of, ops_of}
 use Rattle.fancy_regex_program.specs.Shapes.{IsAllowed, IsWritable}
 use Rattle.fancy_regex_program.specs.ValidPrograms.{IsValidProgram}
@@ -27,13 +28,15 @@ use Rattle.fancy_regex_program.specs.declared.insn.Insn.{Insn}
 use Rattle.fancy_regex_program.proofs.KeptValid.{assembled_is_valid}
 use Rattle.fancy_regex_compiled.specs.Programs.{IsWhole, KeepsCalls, IsCodeOf, IsMadeFrom, RefersToGroups, nodes_with_calls, AreFew}
 use Rattle.fancy_regex_compiled.specs.declared.prog.Prog.{Prog}
-use Rattle.fancy_regex_compiler.specs.Kept.{called_pattern, pattern_at, IsBodyIn, KeepsCallsOf}
-use Rattle.fancy_regex_compiler.specs.Known.{groups_in, pat_with}
+use Rattle.fancy_regex_compiler.specs.Rooms.{room_with}
+use Rattle.fancy_regex_compiler.specs.Inlined.{most_room}
+use Rattle.fancy_regex_compiler.specs.Kept.{first_call, called_pattern, pattern_at, AreWrittenOutIn, IsBodyIn, KeepsCallsOf}
+use Rattle.fancy_regex_compiler.specs.Known.{info_written, groups_in, pat_with}
 use Rattle.fancy_regex_compiler.specs.Refusals.{IsClear}
 use Rattle.fancy_regex_compiler.specs.Written.{IsWritten, AreWritableIfAllowed}
 use Rattle.fancy_regex_compiler.proofs.BodyLemmas.{IsGroupBody, body_is}
 use Rattle.fancy_regex_compiler.proofs.KeptLength.{assembled_is_few}
-use Rattle.fancy_regex_compiler.proofs.KnownLemmas.{count_is}
+use Rattle.fancy_regex_compiler.proofs.KnownLemmas.{count_is, calls_are}
 use Rattle.fancy_regex_compiler.proofs.LengthLemmas.{whole_short}
 use Rattle.fancy_regex_compiler.proofs.WholeLemmas.{pat_gathered, whole_is_valid, clear_is_writable}
 use Rattle.fancy_regex_compiler.proofs.WritableLemmas.{can_be_written, body_can_be_written}
@@ -44,12 +47,12 @@ kept_is_valid : (u w anchored : Bool) (infos : List InfoTree) (x : InfoTree) (in
 kept_is_valid u w anchored infos x insns slots kept allowed writable =
     let first = writable.main.first in
     let P : Body → Type 0 = λ b. IsWritable first (length infos) b.pattern in
-    let can : (b : Body) → IsBodyIn u kept.layout infos b → P b =
+    let can : (b : Body) → IsBodyIn u kept.layout kept.is_written_out infos b → P b =
     λ b is.
     let inside = subst (IsAllowed u is.keeps) is.pattern is.allowed in
     subst (IsWritable first (length infos)) (sym is.pattern) (writable.bodies b.group is.keeps is.group inside) in
     assembled_is_valid (in_class u) (folded u) w kept.layout anchored (length infos) (pat_with infos x) kept.bodies (ops_of insns) slots kept.code first
-    writable.main.whole_group (writable.main.writable allowed) (All-weaker (IsBodyIn u kept.layout infos) P can kept.bodies kept.each)
+    writable.main.whole_group (writable.main.writable allowed) (All-weaker (IsBodyIn u kept.layout kept.is_written_out infos) P can kept.bodies kept.each)
 
 pub written_is_valid : (cap : Option ℕ) (most : ℕ) (u w anchored : Bool) (infos : List InfoTree) (x : InfoTree) (insns : List Insn) (slots : ℕ) → IsWritten cap most u w anchored infos x insns slots →
     IsAllowed u true (pat_with infos x) → AreWritableIfAllowed u w infos x → IsValidProgram (ops_of insns) slots
@@ -75,23 +78,49 @@ module _ (u w anchored explicit : Bool) (t : Tree) (infos : List InfoTree) (x : 
   record HasTree (k : ℕ) : Type 0 where
     tree : Tree
     is_target : target pattern.groups k ≡ Some tree
-    same : pattern_at infos k ≡ body_with_calls pattern.groups k tree
+    body : InfoTree
+    at : slice_get infos k ≡ Some body
+    same : pattern_at infos k ≡ body_pattern pattern.groups k tree
+    written_is : (call : ℕ → CorePattern) → (info_written call body).front ≡ (written pattern.groups call (k + 1) tree).front
 
   has_tree : (k : ℕ) → k < length infos → HasTree k
   has_tree k low =
       let y = get_or infos k x in
       let at : slice_get infos k ≡ Some y = slice_get-get_or infos k x low in
       let is : IsGroupBody explicit t k y = body_is explicit t k y (sym (ap (λ gs. slice_get gs k) infos_are) ∙ at) in
-      record { tree = is.tree; is_target = is.is_target; same = ap (pat_for called_pattern) at ∙ is.pattern }
+      record {
+        tree = is.tree;
+        is_target = is.is_target;
+        body = y;
+        at = at;
+        same = ap (pat_for (called_pattern infos)) at ∙ ap (λ gs. called_pattern gs y) infos_are ∙ is.pattern;
+        written_is = is.written_is;
+      }
 
-  body_of_tree : (layout : Layout) (b : Body) → IsBodyIn u layout infos b → IsBodyOf layout pattern.groups b
-  body_of_tree layout b is =
+  -- what stands for calls around which none is open
+  first_calls : first_call infos ≡ written_call pattern.groups (max_open_calls pattern.groups) []
+  first_calls = ap first_call infos_are ∙ calls_are explicit t
+
+  ranks_of_tree : (layout : Layout) (is_written_out : ℕ → Bool) → AreWrittenOutIn layout infos is_written_out → AreWrittenOut layout pattern.groups is_written_out
+  ranks_of_tree layout is_written_out are = record {
+    rank = are.rank;
+    none = are.none;
+    leads = λ k v out is call other lower.
+        let has = has_tree k (omega (arith, as_many, slice_get_within pattern.groups k v is)) in
+        let tree_is : has.tree ≡ v = same_Some has.tree v (sym has.is_target ∙ is) in
+        subst (λ w. (written pattern.groups call (k + 1) w).front ≡ (written pattern.groups other (k + 1) w).front) tree_is
+        (sym (has.written_is call) ∙ are.leads k has.body out has.at call other lower ∙ has.written_is other);
+  }
+
+  body_of_tree : (layout : Layout) (is_written_out : ℕ → Bool) (b : Body) → IsBodyIn u layout is_written_out infos b → IsBodyOf layout is_written_out pattern.groups b
+  body_of_tree layout is_written_out b is =
       let has = has_tree b.group is.group in
       record { tree = has.tree; is_target = has.is_target; pattern = is.pattern ∙ has.same; calls = is.calls }
 
   module _ (insns : List Insn) (slots : ℕ) where
-    bodies_are : (kept : KeepsCallsOf u w anchored infos x insns slots) → All (IsBodyOf kept.layout pattern.groups) kept.bodies
-    bodies_are kept = All-weaker (IsBodyIn u kept.layout infos) (IsBodyOf kept.layout pattern.groups) (body_of_tree kept.layout) kept.bodies kept.each
+    bodies_are : (kept : KeepsCallsOf u w anchored infos x insns slots) → All (IsBodyOf kept.layout kept.is_written_out pattern.groups) kept.bodies
+    bodies_are kept =
+        All-weaker (IsBodyIn u kept.layout kept.is_written_out infos) (IsBodyOf kept.layout kept.is_written_out pattern.groups) (body_of_tree kept.layout kept.is_written_out) kept.bodies kept.each
 
     keeps_calls : KeepsCallsOf u w anchored infos x insns slots → KeepsCalls u w anchored (length infos) pattern insns slots
     keeps_calls kept =
@@ -100,7 +129,9 @@ module _ (u w anchored explicit : Bool) (t : Tree) (infos : List InfoTree) (x : 
           layout = kept.layout;
           bodies = kept.bodies;
           code = subst P pat kept.code;
-          calls = subst (CallsStay kept.layout) pat kept.calls;
+          is_written_out = kept.is_written_out;
+          written_out = ranks_of_tree kept.layout kept.is_written_out kept.written_out;
+          calls = subst (CallsAreLaidOut kept.layout kept.is_written_out) pat kept.calls;
           each = bodies_are kept;
           distinct = kept.distinct;
         }
@@ -108,8 +139,10 @@ module _ (u w anchored explicit : Bool) (t : Tree) (infos : List InfoTree) (x : 
     kept_is_few : (kept : KeepsCallsOf u w anchored infos x insns slots) → length insns ≤ 16 * (nodes_with_calls pattern + 1)
     kept_is_few kept =
         let P = λ (p : CorePattern). IsMadeOf (in_class u) (folded u) w kept.layout anchored (length infos) p kept.bodies (ops_of insns) in
-        let few = assembled_is_few u w kept.layout anchored (length infos) pattern kept.bodies (ops_of insns) (subst P pat kept.code.made)
-        (subst (CallsStay kept.layout) pat kept.calls) (bodies_are kept) kept.distinct in
+        let small : (k : ℕ) → kept.is_written_out k ≡ true → room_with kept.layout (written_call pattern.groups (max_open_calls pattern.groups) [] k) ≤ most_room =
+        λ k out. subst (λ (c : ℕ → CorePattern). room_with kept.layout (c k) ≤ most_room) first_calls (kept.written_out.small k out) in
+        let few = assembled_is_few u w kept.layout kept.is_written_out anchored (length infos) pattern kept.bodies (ops_of insns) (subst P pat kept.code.made) small
+        (subst (CallsAreLaidOut kept.layout kept.is_written_out) pat kept.calls) (bodies_are kept) kept.distinct in
         omega (arith, few, length-map insns op_of)
 
     whole_of_tree : IsWhole u w anchored (length infos) (pat_with infos x) insns slots → IsWhole u w anchored (length infos) (core_pattern_of pattern) insns slots
@@ -146,7 +179,7 @@ module _ (u w anchored explicit : Bool) (t : Tree) (infos : List InfoTree) (x : 
         };
         bodies = λ k keeps low allowed.
             let has = has_tree k low in
-            let Q = λ (n : ℕ). IsWritable first n (body_with_calls pattern.groups k has.tree) in
+            let Q = λ (n : ℕ). IsWritable first n (body_pattern pattern.groups k has.tree) in
             subst P (sym has.same)
             (subst Q (sym as_many) (body_can_be_written u keeps explicit t k has.tree has.is_target refers (subst (IsAllowed u keeps) has.same allowed)));
       }

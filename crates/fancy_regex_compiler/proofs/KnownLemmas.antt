@@ -16,7 +16,7 @@ use Rattle.fancy_regex_info.specs.Easy.{is_easy, all_easy}
 use Rattle.fancy_regex_info.specs.References.{is_read}
 use Rattle.fancy_regex_info.specs.Infos.{InfoTree, properties_in, properties, expected_info, expected_infos}
 use Rattle.fancy_regex_info.specs.Views.{pattern_in}
-use Rattle.fancy_regex_compiler.specs.Known.{front_of, behind_of, info_written, info_written_all, is_plain_info, are_plain_infos, info_begins_tail, tree_in, trees_in, plain_row, info_tail, info_whole, info_call, bodies_in, row_bodies_in, groups_in, pat_in}
+use Rattle.fancy_regex_compiler.specs.Known.{front_of, behind_of, info_written, info_written_all, is_plain_info, are_plain_infos, info_begins_tail, tree_in, trees_in, plain_row, info_tail, info_whole, info_call, bodies_in, row_bodies_in, groups_in, most_calls_in, pat_in}
 
 -- Whether a tree without groups is easy does not depend on which groups are read.
 module _ (reads others : ℕ → Bool) where
@@ -279,3 +279,12 @@ pat_is explicit t =
     ∙ whole_is pattern.groups reads (written_call pattern.groups n []) pattern.first_group t
     ∙ ap (λ r. written_whole pattern.groups (written_call pattern.groups n []) pattern.first_group r) (sym (tree_is explicit t))
     ∙ pat_of_written pattern
+
+-- What stands for calls around which none is open is that of the definitions.
+pub calls_are : (explicit : Bool) (t : Tree) → info_call (groups_in (not explicit) (analysis explicit t)) (most_calls_in (groups_in (not explicit) (analysis explicit t))) []
+    ≡ written_call (pattern_in explicit t).groups (max_open_calls (pattern_in explicit t).groups) []
+calls_are explicit t =
+    let pattern = pattern_in explicit t in
+    let reads = is_read (length pattern.groups) t in
+    ap₂ (λ gs m. info_call gs (max_open_calls_per_group * m) []) (groups_are explicit t) (count_is explicit t)
+    ∙ fun_ext (call_is pattern.groups reads (max_open_calls pattern.groups) [] [] (λ j. refl))

@@ -29,6 +29,11 @@ pub mod InfoParts
 pub mod NeedsMet
 pub mod KeptWhole
 mod StackLemmas
+mod InlinedRooms
+mod InlinedLemmas
+mod InlinedDrafts
+mod InlinedContext
+mod SilentLemmas
 mod AddedBodies
 mod MetLemmas
 mod MainLemmas

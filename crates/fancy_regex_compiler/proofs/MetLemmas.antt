@@ -9,7 +9,7 @@ use Rattle.std.proofs.lemmas.List.Elements.{Contains-append_left, Contains-appen
 use Rattle.fancy_regex_info.specs.Infos.{InfoTree, info_of}
 use Rattle.fancy_regex_info.specs.declared.error.CompileError.{CompileError}
 use Rattle.fancy_regex_info.specs.declared.info.Info.{Info}
-use Rattle.fancy_regex_compiler.specs.Kept.{pattern_at, NeedStands, IsBodyLetThrough, MeetsNeed, IsMet, IsMetUnder, IsNeededBody}
+use Rattle.fancy_regex_compiler.specs.Kept.{pattern_at, scope_for, Stays, NeedStands, IsBodyLetThrough, MeetsNeed, IsMet, IsMetUnder, IsNeededBody}
 use Rattle.fancy_regex_compiler.specs.Needs.{AreAmong, AreOfGroups, AreStanding, Notes}
 use Rattle.fancy_regex_compiler.specs.Refusals.{TreeContext, IsAnalyzed, IsExpandedPart, IsReason}
 use Rattle.fancy_regex_compiler.specs.Tasks.{node_pattern, IsLetThrough, EmitsAll}
@@ -33,20 +33,18 @@ Emitted context i scope opened old new slot result =
     EmitsAll context (node_pattern context i false scope opened) scope.may_keep
     (λ tree_context. IsExpandedPart tree_context scope.may_keep scope.may_be_absent false (info_of i)) old new slot result
 
-abbrev scope_for : Need → Scope
-scope_for need = record { calls_left = 0; may_keep = need.may_keep; may_be_absent = need.may_be_absent }
+module _ (context : CompileContext) (need : Need) (i : Info) (at : slice_get (infos_of context) need.group ≡ Some (info_of i)) (opened : List ℕ) (none : opened ≡ []) where
+  pub body_pattern : node_pattern context i false (scope_for context need) opened ≡ pattern_at (infos_of context) need.group
+  body_pattern = called_is (infos_of context) opened (info_of i) none ∙ sym (pattern_is (infos_of context) need.group (info_of i) at)
 
-module _ (context : CompileContext) (need : Need) (i : Info) (at : slice_get (infos_of context) need.group ≡ Some (info_of i)) (opened : List ℕ) where
-  pub body_pattern : node_pattern context i false (scope_for need) opened ≡ pattern_at (infos_of context) need.group
-  body_pattern = called_is (infos_of context) opened 0 (info_of i) refl ∙ sym (pattern_is (infos_of context) need.group (info_of i) at)
-
-  module _ {A : Type 0} (start old mid new : Emitter) (scope : Scope) (slot : ℕ) (is : scope ≡ scope_for need) (begins : old.needs.items ≡ start.needs.items)
-      (same : new.needs.items ≡ mid.needs.items) where
+  module _ {A : Type 0} (start old mid new : Emitter) (scope : Scope) (slot : ℕ) (is : scope ≡ scope_for context need) (begins : old.needs.items ≡ start.needs.items)
+      (same_calls : old.opened.items ≡ start.opened.items) (shut : new.opened.items ≡ mid.opened.items) (same : new.needs.items ≡ mid.needs.items) where
     pub met_ok : (after : ℕ) (a : A) → Emitted context i scope opened old mid slot (Ok after) → MeetsNeed context need start new (Ok a)
     met_ok after a emitted =
         let h = subst (λ s. Emitted context i s opened old mid slot (Ok after)) is emitted in
         record {
-          allowed = λ all among. subst (λ q. IsLetThrough context need.may_keep q all) body_pattern (h.allowed all (λ n c. among n (subst (λ l. Contains l n) (sym same) c)));
+          opened = shut ∙ h.wrote.opened ∙ same_calls;
+          allowed = λ all among stays. subst (λ q. IsLetThrough context need.may_keep q all) body_pattern (h.allowed all (λ n c. among n (subst (λ l. Contains l n) (sym same) c)));
           notes = record {
             more = h.notes.more;
             are = same ∙ h.notes.are ∙ ap (λ l. l ++ h.notes.more) begins;
@@ -62,6 +60,7 @@ module _ (context : CompileContext) (need : Need) (i : Info) (at : slice_get (in
         let h = subst (λ s. Emitted context i s opened old mid slot (Err e)) is emitted in
         record {
           allowed = tt;
+          opened = tt;
           notes = tt;
           refused = subst (λ g. (tree_context : TreeContext) → IsAnalyzed tree_context (infos_of context) → NeedStands context need tree_context →
               IsReason context.unicode tree_context.groups tree_context.root g) (sym told) (λ tree_context analyzed stands. h.refused tree_context analyzed (stands.body (info_of i) at));
@@ -120,7 +119,7 @@ module _ (context : CompileContext) (start needs : List Need) (of_groups : AreOf
 
     pub met_now : (old_bodies new_bodies : Bodies) →
         ((all : List Need) → AreAmong needs all → (i : ℕ) (n : Need) → i < done → slice_get needs i ≡ Some n → IsMetUnder context old_bodies all n) →
-        IsMet old_bodies new_bodies need → ((all : List Need) → AreAmong new all → IsBodyLetThrough context need all) →
+        IsMet context old_bodies new_bodies need → ((all : List Need) → AreAmong new all → Stays context need.group → IsBodyLetThrough context need all) →
         (all : List Need) → AreAmong new all → (i : ℕ) (n : Need) → i < done + 1 → slice_get new i ≡ Some n → IsMetUnder context new_bodies all n
     met_now old_bodies new_bodies before is allowed all among i n low there = choose (i == done) refl
       where
@@ -137,9 +136,9 @@ module _ (context : CompileContext) (start needs : List Need) (of_groups : AreOf
         choose false e =
             let less : i < done = grind (arith, nat_tests) in
             let h = before all (λ m c. among m (subst (λ l. Contains l m) (sym met.are) (Contains-append_left needs met.more m c))) i n less here in
-            record { marked = is.others n.group h.marked; allowed = h.allowed }
+            record { marked = λ stays. is.others n.group (h.marked stays); allowed = h.allowed }
 
-    pub needed_now : (old_bodies new_bodies : Bodies) → IsMet old_bodies new_bodies need →
+    pub needed_now : (old_bodies new_bodies : Bodies) → IsMet context old_bodies new_bodies need →
         ((b : Body) → Contains old_bodies.list.items b → IsNeededBody needs b) → (b : Body) → Contains new_bodies.list.items b → IsNeededBody new b
     needed_now old_bodies new_bodies is before b there =
         let later : (n : Need) → Contains needs n → Contains new n = λ n c. subst (λ l. Contains l n) (sym met.are) (Contains-append_left needs met.more n c) in

@@ -1,10 +1,12 @@
 -- Needs that are noted, and what is let through where they are met.
-use Rattle.std.proofs.Common.{◌≡◌, ℕ, ◌<◌, Bool, false, ⊎_elim, List, [], ◌++◌, length, None, Some, refl, sym, ap, ◌∙◌, subst, arith, append_assoc, append-nil}
-use Rattle.std.specs.Prelude.{slice_get, option_map}
+use Rattle.std.proofs.Common.{◌≡◌, ℕ, zero, suc, ◌<◌, Bool, true, false, not, ⊎_elim, List, [], ◌∷◌, ◌++◌, length, Option, None, Some, refl, sym, ap, ◌∙◌, subst, arith, append_assoc, append-nil}
+use Rattle.std.specs.Prelude.{slice_get, option_map, is_some}
 use Rattle.std.specs.List.{Contains}
 use Rattle.std.specs.declared.alloc.Global.{Global}
 use Rattle.std.specs.declared.sync.Arc.{Arc}
+use Rattle.std.proofs.lemmas.Bool.{true≢false}
 use Rattle.std.proofs.lemmas.List.{nil_from_length}
+use Rattle.std.proofs.lemmas.Option.{none-some}
 use Rattle.std.proofs.lemmas.List.Elements.{Contains-append_left, Contains-append_cases}
 use Rattle.fancy_regex_desugar.specs.CorePatterns.{CorePattern, read, keep_out, cat, alt, group, ahead, never, atomic, delegate, tail, repeat, conditional, absent, called}
 use Rattle.fancy_regex_info.specs.Infos.{InfoTree}
@@ -12,9 +14,11 @@ use Rattle.fancy_regex_program.specs.Code.{Layout, written_out}
 use Rattle.fancy_regex_program.specs.Ops.{Place}
 use Rattle.fancy_regex_program.specs.Shapes.{IsAllowed}
 use Rattle.fancy_regex_program.specs.declared.insn.Callee.{Callee}
+use Rattle.fancy_regex_compiler.specs.Inlined.{is_inlined, AreLaidOut}
 use Rattle.fancy_regex_compiler.specs.Needs.{AreAmong, IsNeeded, NoneStays, IsCallAllowed, IsAllowedUnder, AreOfGroups, AreStanding, Notes, IsNoted}
 use Rattle.fancy_regex_compiler.specs.Refusals.{TreeContext, IsAnalyzed, IsExpandedTarget}
-use Rattle.fancy_regex_compiler.specs.Writing.{draft_place, layout_of}
+use Rattle.fancy_regex_compiler.specs.Inlined.{draft_place, drafted_place, layout_in}
+use Rattle.fancy_regex_compiler.specs.Writing.{layout_of}
 use Rattle.fancy_regex_compiler.specs.declared.emitter.CompileContext.{CompileContext}
 use Rattle.fancy_regex_compiler.specs.declared.emitter.Need.{Need}
 
@@ -74,17 +78,17 @@ pub among_before : (infos : List InfoTree) (old new all : List Need) (S : TreeCo
 among_before infos old new all S h among n c =
     among n (subst (λ ns. Contains ns n) (sym h.are) (Contains-append_left old h.more n c))
 
--- a call that stays, and one that is written out where none stays
+-- a call that stays, and one that is written out
 pub kept_allowed : (layout : Layout) (all : List Need) (u : Bool) (need : Need) (c : Place) (p : CorePattern) → layout need.group ≡ Some c → Contains all need →
     IsAllowedUnder layout all u need.may_keep (called need.group p)
 kept_allowed layout all u need c p some there =
-    subst (λ o. IsCallAllowed o (IsNeeded all need.group need.may_keep) (NoneStays layout × IsAllowedUnder layout all u need.may_keep p)) (sym some)
+    subst (λ o. IsCallAllowed o (IsNeeded all need.group need.may_keep) (IsAllowedUnder layout all u need.may_keep p)) (sym some)
     (record { need = need; there = there; group = refl; may_keep = refl })
 
-pub called_allowed : (layout : Layout) (all : List Need) (u keeps : Bool) (k : ℕ) (p : CorePattern) → NoneStays layout → IsAllowedUnder layout all u keeps p →
+pub called_allowed : (layout : Layout) (all : List Need) (u keeps : Bool) (k : ℕ) (p : CorePattern) → layout k ≡ None → IsAllowedUnder layout all u keeps p →
     IsAllowedUnder layout all u keeps (called k p)
 called_allowed layout all u keeps k p none h =
-    subst (λ o. IsCallAllowed o (IsNeeded all k keeps) (NoneStays layout × IsAllowedUnder layout all u keeps p)) (sym (none k)) (none, h)
+    subst (λ o. IsCallAllowed o (IsNeeded all k keeps) (IsAllowedUnder layout all u keeps p)) (sym none) h
 
 -- where no call stays, the pattern is let through with what stands for its calls
 pub allowed_written_out : (layout : Layout) (all : List Need) (u keeps : Bool) (p : CorePattern) → NoneStays layout → IsAllowedUnder layout all u keeps p → IsAllowed u keeps p
@@ -103,16 +107,65 @@ allowed_written_out layout all u keeps (conditional c a b) none h =
     (allowed_written_out layout all u keeps c none h.0, allowed_written_out layout all u keeps a none h.1, allowed_written_out layout all u keeps b none h.2)
 allowed_written_out layout all u keeps (absent a) none h = allowed_written_out layout all u false a none h
 allowed_written_out layout all u keeps (called k a) none h =
-    let inside = subst (λ o. IsCallAllowed o (IsNeeded all k keeps) (NoneStays layout × IsAllowedUnder layout all u keeps a)) (none k) h in
-    allowed_written_out layout all u keeps a none inside.1
+    allowed_written_out layout all u keeps a none (subst (λ o. IsCallAllowed o (IsNeeded all k keeps) (IsAllowedUnder layout all u keeps a)) (none k) h)
 allowed_written_out layout all u keeps _ none h = tt
 
 -- where there is no draft no call stays
-pub none_listed : (drafts : List (Arc Callee Global)) → drafts ≡ [] → ◌≡◌ {A = Layout} (λ k. option_map draft_place (slice_get drafts k)) written_out
-none_listed drafts none = ap (λ ds k. option_map draft_place (slice_get ds k)) none
+none_listed : (drafts : List (Option (Arc Callee Global))) → drafts ≡ [] → layout_in drafts ≡ written_out
+none_listed drafts none = ap layout_in none
 
 pub none_drafted : (context : CompileContext) → length context.drafts.now.items ≡ 0 → layout_of context ≡ written_out
 none_drafted context none = none_listed context.drafts.now.items (nil_from_length context.drafts.now.items none)
 
 pub none_stays : (layout : Layout) → layout ≡ written_out → NoneStays layout
 none_stays layout is k = ap (λ (l : Layout). l k) is
+
+-- What the drafts say of the layout: calls of a group with a draft stay, and those of one without are written out.
+listed_place : (drafts : List (Option (Arc Callee Global))) (k : ℕ) (d : Option (Arc Callee Global)) → slice_get drafts k ≡ Some d → layout_in drafts k ≡ option_map draft_place d
+listed_place [] k d at = absurd (none-some d at)
+listed_place (x ∷ xs) k d at = ap (drafted_place k) at
+
+pub place_of_draft : (context : CompileContext) (k : ℕ) (d : Option (Arc Callee Global)) → slice_get context.drafts.now.items k ≡ Some d → layout_of context k ≡ option_map draft_place d
+place_of_draft context k d at = listed_place context.drafts.now.items k d at
+
+not_false : (b : Bool) → false ≡ not b → b ≡ true
+not_false true h = refl
+not_false false h = absurd (true≢false (sym h))
+
+none_there_is : (o : Option Place) → is_some o ≡ false → o ≡ None
+none_there_is None h = refl
+none_there_is (Some c) h = absurd (true≢false h)
+
+-- where some call stays, a call is written out only where the group is one of those whose calls are
+pub only_inlined : (rooms : List (Option ℕ)) (drafts : List (Option (Arc Callee Global))) → AreLaidOut rooms drafts → 0 < length drafts → (k : ℕ) → layout_in drafts k ≡ None →
+    is_inlined rooms k ≡ true
+only_inlined rooms drafts laid some k none =
+    let many : length drafts ≡ 0 → ⊥ = λ e. absurd (omega (arith, e, some)) in
+    not_false (is_inlined rooms k) (ap is_some (sym none) ∙ laid k many)
+
+-- and those are written out
+pub inlined_none : (rooms : List (Option ℕ)) (drafts : List (Option (Arc Callee Global))) → AreLaidOut rooms drafts → (k : ℕ) → (length drafts ≡ 0 → ⊥) →
+    is_inlined rooms k ≡ true → layout_in drafts k ≡ None
+inlined_none rooms drafts laid k some out = none_there_is (layout_in drafts k) (laid k some ∙ ap not out)
+
+not_within : (ds : List (Option (Arc Callee Global))) (i : ℕ) → i < length ds → slice_get ds i ≡ None → ⊥
+not_within [] i lt h = absurd (omega (arith, lt))
+not_within (d ∷ ds) zero lt h = none-some d (sym h)
+not_within (d ∷ ds) (suc i) lt h = not_within ds i (omega (arith, lt)) h
+
+some_place : (d : Option (Arc Callee Global)) → is_some (option_map draft_place d) ≡ is_some d
+some_place None = refl
+some_place (Some draft) = refl
+
+-- where each group that is listed has a draft unless its calls are written out
+pub laid_out_all : (rooms : List (Option ℕ)) (drafts : List (Option (Arc Callee Global))) →
+    ((k : ℕ) (d : Option (Arc Callee Global)) → slice_get drafts k ≡ Some d → is_some d ≡ not (is_inlined rooms k)) →
+    ((k : ℕ) → is_inlined rooms k ≡ true → k < length drafts) → AreLaidOut rooms drafts
+laid_out_all rooms [] each few k some = absurd (some refl)
+laid_out_all rooms (x ∷ xs) each few k some = at (slice_get (x ∷ xs) k) refl (is_inlined rooms k) refl
+  where
+    at : (o : Option (Option (Arc Callee Global))) → slice_get (x ∷ xs) k ≡ o → (b : Bool) → is_inlined rooms k ≡ b →
+        is_some (layout_in (x ∷ xs) k) ≡ not (is_inlined rooms k)
+    at (Some d) e b eb = ap (λ p. is_some (drafted_place k p)) e ∙ some_place d ∙ each k d e
+    at None e true eb = absurd (not_within (x ∷ xs) k (few k eb) e)
+    at None e false eb = ap (λ p. is_some (drafted_place k p)) e ∙ sym (ap not eb)

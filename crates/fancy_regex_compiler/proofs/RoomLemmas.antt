@@ -18,7 +18,8 @@ use Rattle.fancy_regex_analysis.proofs.PartErrorLemmas.{gives}
 use Rattle.fancy_regex_program.specs.Ops as op
 use Rattle.fancy_regex_program.specs.Ops.{Op, Place, op_of}
 use Rattle.fancy_regex_program.specs.Code.{Layout, written_out, call_code, waits_at_call, Code, is_whole_literal, still_waits, waits_with, flushed, slots_with, one, after_text, closed, alt_code, group_code, ahead_code, never_code, atomic_code, tail_code, repeat_code, loop_code, conditional_code, absent_code, leaf_op, code_with}
-use Rattle.fancy_regex_compiler.specs.Extents.{extent, room_at_call, room_with, IsFull}
+use Rattle.fancy_regex_compiler.specs.Extents.{extent, IsFull}
+use Rattle.fancy_regex_compiler.specs.Rooms.{room_at_call, room_with}
 use Rattle.fancy_regex_compiler.specs.Known.{front_of, info_written, info_call}
 use Rattle.fancy_regex_compiler.specs.Writing.{Draft, draft_of, with_op, closed_draft, added, patched, ended_by, ended, with_pat, Wrote, IsInsn}
 use Rattle.fancy_regex_compiler.specs.declared.program_builder.ProgramBuilder.{ProgramBuilder}

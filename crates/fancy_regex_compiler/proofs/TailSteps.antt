@@ -34,7 +34,8 @@ use Rattle.fancy_regex_analysis.specs.NodeErrors.{is_invalid_node}
 use Rattle.fancy_regex_program.specs.Ops as op
 use Rattle.fancy_regex_program.specs.Ops.{op_of}
 use Rattle.fancy_regex_program.specs.Code.{Layout, slots_with}
-use Rattle.fancy_regex_compiler.specs.Extents.{extent, room_with}
+use Rattle.fancy_regex_compiler.specs.Extents.{extent}
+use Rattle.fancy_regex_compiler.specs.Rooms.{room_with}
 use Rattle.fancy_regex_compiler.specs.Known.{info_written, info_written_all, is_plain_info, are_plain_infos, info_begins_tail, tree_in, trees_in, plain_row, info_tail, info_whole}
 use Rattle.fancy_regex_program.specs.Parts.{IsDelegateOf, IsDelegateIfAny, IsPartCause}
 use Rattle.fancy_regex_compiler.specs.Refusals.{is_class, IsReason, TreeContext, IsAnalyzed, ExpandedPart, AreExpandedParts}

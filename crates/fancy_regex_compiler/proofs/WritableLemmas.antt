@@ -20,7 +20,7 @@ use Rattle.fancy_regex_analysis.specs.NodeErrors.{some_node, some_node_of, shows
 use Rattle.fancy_regex_info.specs.Views.{pattern_in}
 use Rattle.fancy_regex_info.specs.declared.error.CompileError.TheVariants.{InvalidBackref}
 use Rattle.fancy_regex_compiled.specs.Programs.{RefersToGroups, CanBeWritten}
-use Rattle.fancy_regex_program.specs.Layouts.{body_with_calls}
+use Rattle.fancy_regex_program.specs.Layouts.{body_pattern}
 use Rattle.fancy_regex_program.specs.Shapes.{KeepsNothing, IsAllowed, IsWritable}
 
 -- where the match start may not be set, it stays as it is
@@ -332,32 +332,32 @@ can_be_written unicode explicit t allowed =
           (pattern_reads explicit t refers) allowed (pattern_steps_back_only_first p);
     }
 
--- the body of a group, of whose calls nothing is written out
+-- the body of a group
 body_reads : (explicit : Bool) (t : Tree) (k : ℕ) (u : Tree) → target (pattern_in explicit t).groups k ≡ Some u → RefersToGroups explicit t →
-    ReadsGroups (pattern_in explicit t).first_group (length (pattern_in explicit t).groups) (body_with_calls (pattern_in explicit t).groups k u)
+    ReadsGroups (pattern_in explicit t).first_group (length (pattern_in explicit t).groups) (body_pattern (pattern_in explicit t).groups k u)
 body_reads true t k u is h =
     let gs = bodies t in
     let count = length gs in
-    (reads count 0 (omega arith) gs (λ j. called j fail) (λ j. record { is = tt }) (k + 1) u (one_refers count gs k u (bodies_refer count t h) is)).front
+    (reads count 0 (omega arith) gs _ (reads_calls count 0 (omega arith) gs (bodies_refer count t h) (max_open_calls gs) []) (k + 1) u
+    (one_refers count gs k u (bodies_refer count t h) is)).front
 body_reads false t k u is h =
     let gs = t ∷ bodies t in
     let count = length gs in
-    (reads count 1 (omega arith) gs (λ j. called j fail) (λ j. record { is = tt }) (k + 1) u (one_refers count gs k u (h, bodies_refer count t h) is)).front
+    (reads count 1 (omega arith) gs _ (reads_calls count 1 (omega arith) gs (h, bodies_refer count t h) (max_open_calls gs) []) (k + 1) u
+    (one_refers count gs k u (h, bodies_refer count t h) is)).front
 
 body_has_groups : (explicit : Bool) (t : Tree) (k : ℕ) (u : Tree) → target (pattern_in explicit t).groups k ≡ Some u →
-    HasGroups (pattern_in explicit t).first_group (length (pattern_in explicit t).groups) (body_with_calls (pattern_in explicit t).groups k u)
-unfolding written_call
-body_has_groups true t k u is = body_groups_from_zero t 0 [] k u is
-body_has_groups false t k u is = body_groups_from_one t 0 [] k u is
+    HasGroups (pattern_in explicit t).first_group (length (pattern_in explicit t).groups) (body_pattern (pattern_in explicit t).groups k u)
+body_has_groups true t k u is = body_groups_from_zero t (max_open_calls (bodies t)) [] k u is
+body_has_groups false t k u is = body_groups_from_one t (max_open_calls (t ∷ bodies t)) [] k u is
 
-body_steps_back : (groups : List Tree) (k : ℕ) (u : Tree) → StepsBackOnlyFirst false (body_with_calls groups k u)
-unfolding written_call
-body_steps_back groups k u = (unfolded_steps_back_only_first groups 0 [] (k + 1) u).0
+body_steps_back : (groups : List Tree) (k : ℕ) (u : Tree) → StepsBackOnlyFirst false (body_pattern groups k u)
+body_steps_back groups k u = (unfolded_steps_back_only_first groups (max_open_calls groups) [] (k + 1) u).0
 
 pub body_can_be_written : (unicode keeps explicit : Bool) (t : Tree) (k : ℕ) (u : Tree) → target (pattern_in explicit t).groups k ≡ Some u → RefersToGroups explicit t →
-    IsAllowed unicode keeps (body_with_calls (pattern_in explicit t).groups k u) →
-    IsWritable (pattern_in explicit t).first_group (length (pattern_in explicit t).groups) (body_with_calls (pattern_in explicit t).groups k u)
+    IsAllowed unicode keeps (body_pattern (pattern_in explicit t).groups k u) →
+    IsWritable (pattern_in explicit t).first_group (length (pattern_in explicit t).groups) (body_pattern (pattern_in explicit t).groups k u)
 body_can_be_written unicode keeps explicit t k u is refers allowed =
     let p = pattern_in explicit t in
-    can_write p.first_group (length p.groups) unicode keeps false (body_with_calls p.groups k u) (body_has_groups explicit t k u is) (body_reads explicit t k u is refers) allowed
+    can_write p.first_group (length p.groups) unicode keeps false (body_pattern p.groups k u) (body_has_groups explicit t k u is) (body_reads explicit t k u is refers) allowed
     (body_steps_back p.groups k u)

@@ -1,24 +1,16 @@
 -- Groups that write nothing but characters.
-use Rattle.std.specs.Prelude.{◌≡◌, ℕ, ◌≤◌, Bool, true, false, ◌&&◌, List, map, slice_get, Option, Some}
+use Rattle.std.specs.Prelude.{◌≡◌, ℕ, ◌≤◌, Bool, false, List, map, slice_get, Option, Some}
 use Rattle.std.specs.Borrow.{Bor}
 use Rattle.fancy_regex_meaning.specs.Ways.{is_at_call_limit}
-use Rattle.fancy_regex_desugar.specs.CorePatterns.{CorePattern, nothing, cat, called}
+use Rattle.fancy_regex_desugar.specs.CorePatterns.{CorePattern}
 use Rattle.fancy_regex_desugar.specs.ProgramSizes.{room}
 use Rattle.fancy_regex_info.specs.Infos.{InfoTree, info_of}
 use Rattle.fancy_regex_info.specs.declared.info.Info.{Info}
 use Rattle.fancy_regex_compiler.specs.Known.{info_call}
 
--- nothing is written of the pattern
-abbrev pub is_silent : CorePattern → Bool
-is_silent nothing = true
-is_silent (cat a b) = is_silent a && is_silent b
-is_silent (called k p) = is_silent p
-is_silent _ = false
-
--- The pattern has room for so many characters at least, and where there are none, nothing is written of it.
+-- The pattern has room for so many characters at least.
 pub record IsText (n : ℕ) (p : CorePattern) : Type 0 where
   pub fits : n ≤ room p
-  pub silent : n ≡ 0 → is_silent p ≡ true
 
 -- So does the pattern over those of calls, where it does for the calls of groups with no more characters.
 abbrev pub WritesText : List (Option ℕ) → ℕ → ((ℕ → CorePattern) → CorePattern) → Type 0

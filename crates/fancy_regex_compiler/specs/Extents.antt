@@ -1,10 +1,10 @@
 -- How much of its cap a program takes.
-use Rattle.std.specs.Prelude.{◌≡◌, ℕ, ◌+◌, ◌<◌, true, length, Option, Some, None, Result, OnOk, IfErr}
+use Rattle.std.specs.Prelude.{◌≡◌, ℕ, ◌+◌, ◌<◌, true, length, Result, OnOk, IfErr}
 use Rattle.fancy_regex_analysis.specs.AnalysisErrors.{is_too_complex}
-use Rattle.fancy_regex_desugar.specs.CorePatterns.{CorePattern, nothing, cat, alt, group, ahead, never, back, atomic, tail, repeat, conditional, absent, called}
+use Rattle.fancy_regex_desugar.specs.CorePatterns.{CorePattern}
 use Rattle.fancy_regex_info.specs.declared.error.CompileError.{CompileError}
-use Rattle.fancy_regex_program.specs.Code.{Layout, flushed}
-use Rattle.fancy_regex_program.specs.Ops.{Place}
+use Rattle.fancy_regex_program.specs.Code.{flushed}
+use Rattle.fancy_regex_compiler.specs.Rooms.{room_with}
 use Rattle.fancy_regex_compiler.specs.Refusals.{IsMemoryOrTooComplex}
 use Rattle.fancy_regex_compiler.specs.Writing.{Draft, draft_of, layout_of, Wrote}
 use Rattle.fancy_regex_compiler.specs.declared.emitter.CompileContext.{CompileContext}
@@ -14,28 +14,6 @@ use Rattle.fancy_regex_compiler.specs.declared.program_builder.ProgramBuilder.{P
 -- how many operations there are once the text that waits is one
 unfoldable pub extent : Draft → ℕ
 extent d = length d.ops + length (flushed d.text)
-
--- a call that stays is one instruction
-abbrev pub room_at_call : Option Place → ℕ → ℕ
-room_at_call None n = n
-room_at_call (Some c) n = 1
-
--- the upper bound on the number of instructions, as `room`, where those calls stay
-unfoldable pub room_with : Layout → CorePattern → ℕ
-room_with layout nothing = 0
-room_with layout (cat a b) = room_with layout a + room_with layout b
-room_with layout (alt a b) = 2 + (room_with layout a + room_with layout b)
-room_with layout (back n) = 1
-room_with layout (group k a) = 12 + room_with layout a
-room_with layout (ahead a) = 12 + room_with layout a
-room_with layout (never a) = 12 + room_with layout a
-room_with layout (atomic a) = 12 + room_with layout a
-room_with layout (tail t a) = 1 + room_with layout a
-room_with layout (repeat a lo hi greedy) = 12 + room_with layout a
-room_with layout (conditional c a b) = 12 + (room_with layout c + (room_with layout a + room_with layout b))
-room_with layout (absent a) = 12 + room_with layout a
-room_with layout (called k a) = room_at_call (layout k) (room_with layout a)
-room_with layout _ = 12
 
 -- The program is refused for its length only where the cap is below what was there with so many instructions more.
 abbrev pub IsFull : ProgramBuilder → ℕ → CompileError → Type 0

@@ -2,7 +2,9 @@ pub mod Known
 pub mod Writing
 pub mod Groups
 pub mod CalledTexts
+pub mod Rooms
 pub mod Extents
+pub mod Inlined
 pub mod Needs
 pub mod Refusals
 pub mod Tasks

@@ -26,13 +26,12 @@ pub record IsNeeded (all : List Need) (k : ℕ) (keeps : Bool) : Type 0 where
 abbrev pub NoneStays : Layout → Type 0
 NoneStays layout = (k : ℕ) → layout k ≡ None
 
--- A call that stays is let through where a body is needed; another one where none stays and what stands for it is let through.
+-- A call that stays is let through where a body is needed; another one where what stands for it is.
 abbrev pub IsCallAllowed : Option Place → Type 0 → Type 0 → Type 0
 IsCallAllowed None needed inside = inside
 IsCallAllowed (Some c) needed inside = needed
 
--- What the compiler lets through, as `IsAllowed`, where these bodies are needed: of a call that stays it lets through the body. All calls
--- stay or none.
+-- What the compiler lets through, as `IsAllowed`, where these bodies are needed: of a call that stays it lets through the body.
 abbrev pub IsAllowedUnder : Layout → List Need → Bool → Bool → CorePattern → Type 0
 IsAllowedUnder layout all unicode keeps (read c) = IsReadable unicode c
 IsAllowedUnder layout all unicode keeps keep_out = keeps ≡ true
@@ -48,7 +47,7 @@ IsAllowedUnder layout all unicode keeps (repeat a lo hi greedy) = IsCounted lo h
 IsAllowedUnder layout all unicode keeps (conditional c a b) =
     IsAllowedUnder layout all unicode keeps c × IsAllowedUnder layout all unicode keeps a × IsAllowedUnder layout all unicode keeps b
 IsAllowedUnder layout all unicode keeps (absent a) = IsAllowedUnder layout all unicode false a
-IsAllowedUnder layout all unicode keeps (called k a) = IsCallAllowed (layout k) (IsNeeded all k keeps) (NoneStays layout × IsAllowedUnder layout all unicode keeps a)
+IsAllowedUnder layout all unicode keeps (called k a) = IsCallAllowed (layout k) (IsNeeded all k keeps) (IsAllowedUnder layout all unicode keeps a)
 IsAllowedUnder layout all unicode keeps _ = Unit {0}
 
 -- there are so many groups, and each need is of one of them

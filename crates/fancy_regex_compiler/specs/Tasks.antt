@@ -10,7 +10,8 @@ use Rattle.fancy_regex_info.specs.declared.error.CompileError.{CompileError}
 use Rattle.fancy_regex_info.specs.declared.info.Info.{Info}
 use Rattle.fancy_regex_program.specs.Ops as op
 use Rattle.fancy_regex_program.specs.Code.{slots_with, is_uncounted, loop_entry, loop_head}
-use Rattle.fancy_regex_compiler.specs.Extents.{extent, room_with, IsFull}
+use Rattle.fancy_regex_compiler.specs.Extents.{extent, IsFull}
+use Rattle.fancy_regex_compiler.specs.Rooms.{room_with}
 use Rattle.fancy_regex_compiler.specs.Known.{plain_row, info_call, info_whole}
 use Rattle.fancy_regex_compiler.specs.Needs.{AreAmong, IsAllowedUnder, Notes}
 use Rattle.fancy_regex_compiler.specs.Tails.{row_trees}

@@ -11,6 +11,7 @@ use Rattle.fancy_regex_info.specs.Infos.{InfoTree, info_of}
 use Rattle.fancy_regex_info.specs.declared.info.Info.{Info}
 use Rattle.fancy_regex_program.specs.Ops.{Op, Place, op_of, ops_of, place_of, tail, split, jump}
 use Rattle.fancy_regex_program.specs.Code.{Layout, flushed, whole_literal, still_waits, waits_with, slots_with, code_with}
+use Rattle.fancy_regex_compiler.specs.Inlined.{layout_in}
 use Rattle.fancy_regex_compiler.specs.Known.{front_of, info_written, info_call}
 use Rattle.fancy_regex_program.specs.declared.insn.Callee.{Callee}
 use Rattle.fancy_regex_program.specs.declared.insn.Insn.{Insn}
@@ -73,12 +74,8 @@ with_pat layout unicode whole p slot d = record {
   text = waits_with layout p d.text;
 }
 
--- where calls stay calls: the draft of a target stands for its place
-abbrev pub draft_place : Arc Callee Global → Place
-draft_place draft = place_of draft.value
-
 abbrev pub layout_of : CompileContext → Layout
-layout_of context k = option_map draft_place (slice_get context.drafts.now.items k)
+layout_of context = layout_in context.drafts.now.items
 
 -- The program of the pattern was written, with its slots from the one number on up to the other.
 pub record Wrote (layout : Layout) (unicode whole : Bool) (old new : Emitter) (slot after : ℕ) (p : CorePattern) : Type 0 where

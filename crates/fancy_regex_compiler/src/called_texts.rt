@@ -21,15 +21,6 @@ pub(crate) struct CalledTexts {
     pub known: usize,
 }
 
-/// What is done next about a group.
-#[derive(Clone, Copy)]
-enum Visit {
-    /// The groups that its body calls come before it.
-    Enter(usize),
-    /// It is its turn.
-    Leave(usize),
-}
-
 impl CalledTexts {
     /// Nothing is known of any group.
     pub fn none(alloc: Global) -> CalledTexts
@@ -41,15 +32,22 @@ impl CalledTexts {
         }
     }
 
-    /// What is known of these groups. The error is want of memory.
-    pub fn new<'i, 'e>(alloc: Global, groups: &Vec<&'i Info<'e>>) -> Result<CalledTexts, AllocError>
+    /// What is known of these groups, of which each comes in the order after those that it calls. The error is want of memory.
+    pub fn new<'i, 'e>(
+        alloc: Global,
+        groups: &Vec<&'i Info<'e>>,
+        order: &[usize],
+    ) -> Result<CalledTexts, AllocError>
         ensures { IfOk result (λ texts. AreTexts (infos_at groups.now.items) texts.lengths.items texts.known) }
     {
+        if order.is_empty() {
+            return Ok(CalledTexts::none(alloc));
+        }
         let mut texts = CalledTexts {
             lengths: vec![in alloc; None; groups.len()]?,
             known: 0,
         };
-        for group in &call_order(alloc, groups)? {
+        for group in order {
             texts.take_up(groups, *group);
         }
         Ok(texts)
@@ -193,48 +191,4 @@ fn sum_of(first: usize, second: usize) -> usize
         Some(sum) => sum,
         None => usize::MAX,
     }
-}
-
-/// The groups, each after those that its body calls, as far as they do not call each other in a circle. The error is want of memory.
-fn call_order<'i, 'e>(alloc: Global, groups: &Vec<&'i Info<'e>>) -> Result<Vec<usize>, AllocError> {
-    let mut order = Vec::new(alloc);
-    let mut is_entered = vec![in alloc; false; groups.len()]?;
-    let mut visits = first_visits(alloc, groups.len())?;
-    for _ in 0..usize::MAX {
-        match visits.pop() {
-            Some(Visit::Enter(group)) => {
-                if group < groups.len() && group < is_entered.len() && !is_entered[group] {
-                    is_entered[group] = true;
-                    visits.push(Visit::Leave(group))?;
-                    add_visits(groups[group], &mut visits)?;
-                }
-            }
-            Some(Visit::Leave(group)) => order.push(group)?,
-            None => return Ok(order),
-        }
-    }
-    Ok(order)
-}
-
-/// Each of so many groups is entered. The error is want of memory.
-fn first_visits(alloc: Global, count: usize) -> Result<Vec<Visit>, AllocError> {
-    let mut visits = Vec::new(alloc);
-    for group in 0..count {
-        visits.push(Visit::Enter(group))?;
-    }
-    Ok(visits)
-}
-
-/// Enters the groups that a concatenation calls. The error is want of memory.
-fn add_visits(info: &Info<'_>, visits: &mut Vec<Visit>) -> Result<(), AllocError> {
-    match info.expr {
-        Expr::SubroutineCall(group) => visits.push(Visit::Enter(*group))?,
-        Expr::Concat(_) => {
-            for child in &info.children {
-                add_visits(child, visits)?;
-            }
-        }
-        _ => {}
-    }
-    Ok(())
 }

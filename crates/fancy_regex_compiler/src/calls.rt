@@ -1,6 +1,6 @@
 //! Programs in which calls stay calls: the main program, and behind it the body of each called group with its return.
 
-ghost use Rattle.std.specs.Prelude.{◌≡◌, ℕ, ◌+◌, ◌*◌, ◌<◌, List, [], length, map, true, false, slice_index_or, All, IfOk, IfErr, None};
+ghost use Rattle.std.specs.Prelude.{◌≡◌, ℕ, slice_get, Some, not, is_some, IfSome, ◌+◌, ◌*◌, ◌<◌, List, [], length, map, true, false, slice_index_or, All, IfOk, IfErr, None};
 ghost use Rattle.fancy_regex_analysis.specs.AnalysisErrors.{is_too_complex};
 ghost use Rattle.fancy_regex_info.specs.Infos.{info_of};
 ghost use Rattle.fancy_regex_program.specs.Assembled.{resolved as resolved_op, or_draft};
@@ -8,7 +8,8 @@ ghost use Rattle.fancy_regex_program.specs.Layouts.{frames_end as place_end};
 ghost use Rattle.fancy_regex_program.specs.Ops.{Op, place_of, op_of, ops_of};
 ghost use Rattle.fancy_regex_program.specs.Shapes.{IsAllowed};
 ghost use Rattle.fancy_regex_compiler.specs.Kept.{HasBodies, IsMet, MeetsNeed, WritesBodies, WholeStands, KeepsCallsOf};
-ghost use Rattle.fancy_regex_compiler.specs.Kept.{ArePlaces, AreStacked, table_of, place_for, with_place, AreNamed};
+ghost use Rattle.fancy_regex_compiler.specs.Inlined.{is_inlined, AreInlined, AreNamed, AreLaidOut};
+ghost use Rattle.fancy_regex_compiler.specs.Kept.{ArePlaces, AreStacked, table_of, place_for, with_place, scope_for, Stays};
 ghost use Rattle.fancy_regex_compiler.specs.Known.{pat_with};
 ghost use Rattle.fancy_regex_compiler.specs.Needs.{AreOfGroups, AreStanding};
 ghost use Rattle.fancy_regex_compiler.specs.Refusals.{IsMemoryOrTooComplex, IsReasonWhere};
@@ -16,7 +17,8 @@ ghost use Rattle.fancy_regex_compiler.specs.Writing.{draft_of, infos_of};
 
 use crate::emit::{MAX_OPEN_CALLS_PER_GROUP, emit_called};
 use crate::emitter::{CompileContext, Emitter, Need, Scope, past_slots};
-use crate::main_program::{new_emitter, write_main};
+use crate::inlined_groups::InlinedGroups;
+use crate::main_program::{max_open_calls, new_emitter, write_main};
 use crate::program_builder::ProgramBuilder;
 use fancy_regex_info::{CompileError, Info};
 use fancy_regex_program::{Callee, Insn};
@@ -64,20 +66,22 @@ pub(crate) fn write_calls<'i, 'e>(
     info: &'i Info<'e>,
     anchored: bool,
 ) -> Result<(Vec<Insn>, usize), CompileError>
-    requires { 0 < length context.now.groups.now.items }
+    requires some { 0 < length context.now.groups.now.items }
+    requires inlined { AreInlined (infos_of context.now) context.now.inlined.now.rooms.items context.now.inlined.now.known }
     ensures kept { IfOk result (λ p. KeepsCallsOf context.now.unicode context.now.whole anchored (infos_of context.now)
         (info_of info.now) p.0.items p.1) }
     ensures allowed { IfOk result (λ _. IsAllowed context.now.unicode true (pat_with (infos_of context.now) (info_of info.now))) }
     ensures full { IfErr result (λ e. is_too_complex e ≡ false) }
     ensures refused { IfErr result (IsReasonWhere context.now.unicode (infos_of context.now) (WholeStands (info_of info.now))) }
 {
-    let drafts = drafts_of(context.alloc, context.groups.len())?;
+    let drafts = drafts_of(context.alloc, context.inlined, context.groups.len())?;
     let context = CompileContext {
         alloc: context.alloc,
         groups: context.groups,
         whole: context.whole,
         unicode: context.unicode,
         texts: context.texts,
+        inlined: context.inlined,
         drafts: &drafts,
     };
     match write_kept(&context, info, anchored) {
@@ -86,24 +90,48 @@ pub(crate) fn write_calls<'i, 'e>(
     }
 }
 
-/// What stands for the body of each group until it has a place: it tells the group by its start. The error is want of memory.
-fn drafts_of(alloc: Global, count: usize) -> Result<Vec<Arc<Callee>>, AllocError>
+/// What stands for the body of each group whose calls stay until it has a place: it tells the group by its start. The error is want of
+/// memory.
+fn drafts_of(
+    alloc: Global,
+    inlined: &InlinedGroups,
+    count: usize,
+) -> Result<Vec<Option<Arc<Callee>>>, AllocError>
+    requires few { (k : ℕ) → is_inlined inlined.now.rooms.items k ≡ true → k < count }
     ensures count { IfOk result (λ drafts. length drafts.items ≡ count) }
     ensures named { IfOk result (λ drafts. AreNamed drafts.items) }
+    ensures laid_out { IfOk result (λ drafts. AreLaidOut inlined.now.rooms.items drafts.items) }
 {
     let mut drafts = Vec::new(alloc);
     for group in 0..count {
-        let draft = Callee {
-            start: group,
-            count: 0,
-            most: 0,
-            frames: 0,
-            first: 0,
-            own: 0,
-        };
-        drafts.push(Arc::new(alloc, draft)?)?;
+        let draft = draft_for(alloc, inlined, group)?;
+        drafts.push(draft)?;
     }
     Ok(drafts)
+}
+
+/// What stands for the body of this group, if its calls stay. The error is want of memory.
+fn draft_for(
+    alloc: Global,
+    inlined: &InlinedGroups,
+    group: usize,
+) -> Result<Option<Arc<Callee>>, AllocError>
+    ensures named { IfOk result (λ drafted. IfSome drafted (λ draft. draft.value.start ≡ group)) }
+    ensures laid_out { IfOk result (λ drafted. is_some drafted ≡ not (is_inlined inlined.now.rooms.items group)) }
+{
+    if inlined.contains(group) {
+        return Ok(None);
+    }
+    let draft = Callee {
+        start: group,
+        count: 0,
+        most: 0,
+        frames: 0,
+        first: 0,
+        own: 0,
+    };
+    let shared = Arc::new(alloc, draft)?;
+    Ok(Some(shared))
 }
 
 /// Writes the main program and the bodies that are called, and lets calls lead to them.
@@ -113,6 +141,7 @@ fn write_kept<'i, 'e>(
     anchored: bool,
 ) -> Result<(Vec<Insn>, usize), CompileError>
     requires some { 0 < length context.now.groups.now.items }
+    requires inlined { AreInlined (infos_of context.now) context.now.inlined.now.rooms.items context.now.inlined.now.known }
     requires drafted { length context.now.drafts.now.items ≡ length context.now.groups.now.items }
     ensures kept { IfOk result (λ p. KeepsCallsOf context.now.unicode context.now.whole anchored (infos_of context.now)
         (info_of info.now) p.0.items p.1) }
@@ -135,6 +164,7 @@ fn write_bodies<'i, 'e>(
     slot: usize,
 ) -> Result<Bodies, CompileError>
     requires begins { (draft_of emitter.old.body).text ≡ [] }
+    requires opened { emitter.old.opened.items ≡ [] }
     requires drafted { length context.now.drafts.now.items ≡ length context.now.groups.now.items }
     requires of_groups { AreOfGroups (length (infos_of context.now)) emitter.old.needs.items }
     ensures wrote { WritesBodies context.now slot emitter.old emitter.new result }
@@ -163,18 +193,24 @@ fn meet_need<'i, 'e>(
     need: Need,
 ) -> Result<(), CompileError>
     requires group { need.group < length context.now.groups.now.items }
+    requires opened { emitter.old.opened.items ≡ [] }
     requires drafted { length context.now.drafts.now.items ≡ length context.now.groups.now.items }
     requires marks { length bodies.old.written.items ≡ length context.now.groups.now.items }
     ensures bodies { IfOk result (λ _. (main : List Op) (from : ℕ) →
         HasBodies context.now main from (draft_of emitter.old.body) bodies.old →
         HasBodies context.now main from (draft_of emitter.new.body) bodies.new) }
-    ensures met { IfOk result (λ _. IsMet bodies.old bodies.new need) }
+    ensures met { IfOk result (λ _. IsMet context.now bodies.old bodies.new need) }
     ensures needs { MeetsNeed context.now need emitter.old emitter.new result }
 {
-    if bodies.written[need.group] {
-        try_body(context, emitter, need)
-    } else {
-        add_body(context, emitter, bodies, need)
+    match &context.drafts[need.group] {
+        Some(draft) => {
+            if bodies.written[need.group] {
+                try_body(context, emitter, need)
+            } else {
+                add_body(context, emitter, bodies, need, draft)
+            }
+        }
+        None => Ok(()),
     }
 }
 
@@ -184,7 +220,8 @@ fn try_body<'i, 'e>(
     emitter: &mut Emitter,
     need: Need,
 ) -> Result<(), CompileError>
-    requires { need.group < length context.now.groups.now.items }
+    requires group { need.group < length context.now.groups.now.items }
+    requires opened { emitter.old.opened.items ≡ [] }
     ensures same { IfOk result (λ _. emitter.new.body ≡ emitter.old.body) }
     ensures needs { MeetsNeed context.now need emitter.old emitter.new result }
 {
@@ -193,7 +230,7 @@ fn try_body<'i, 'e>(
         context,
         emitter,
         context.groups[need.group],
-        scope_of(need),
+        scope_of(context, need)?,
         0,
     )?;
     emitter.body = body;
@@ -206,29 +243,26 @@ fn add_body<'i, 'e>(
     emitter: &mut Emitter,
     bodies: &mut Bodies,
     need: Need,
+    draft: &Arc<Callee>,
 ) -> Result<(), CompileError>
     requires group { need.group < length context.now.groups.now.items }
+    requires opened { emitter.old.opened.items ≡ [] }
     requires drafted { length context.now.drafts.now.items ≡ length context.now.groups.now.items }
     requires marks { length bodies.old.written.items ≡ length context.now.groups.now.items }
+    requires draft { slice_get context.now.drafts.now.items need.group ≡ Some (Some draft.now) }
     requires fresh { slice_index_or bodies.old.written.items need.group false ≡ false }
     ensures bodies { IfOk result (λ _. (main : List Op) (from : ℕ) →
         HasBodies context.now main from (draft_of emitter.old.body) bodies.old →
         HasBodies context.now main from (draft_of emitter.new.body) bodies.new) }
-    ensures met { IfOk result (λ _. IsMet bodies.old bodies.new need) }
+    ensures met { IfOk result (λ _. IsMet context.now bodies.old bodies.new need) }
     ensures needs { MeetsNeed context.now need emitter.old emitter.new result }
 {
     let group = need.group;
     let start = emitter.body.len();
     let first = bodies.end;
-    let end = emit_called(
-        context,
-        emitter,
-        context.groups[group],
-        scope_of(need),
-        first,
-    )?;
-    let draft = context.drafts[group].clone()?;
-    emitter.body.flush_and_push(Insn::Return(draft))?;
+    let scope = scope_of(context, need)?;
+    let end = emit_called(context, emitter, context.groups[group], scope, first)?;
+    emitter.body.flush_and_push(Insn::Return(draft.clone()?))?;
     let own = end - first;
     bodies.list.push(Body {
         group,
@@ -241,15 +275,16 @@ fn add_body<'i, 'e>(
     Ok(())
 }
 
-/// The context of the body, none of whose calls is written out.
-fn scope_of(need: Need) -> Scope
-    ensures { result ≡ record { calls_left = 0; may_keep = need.may_keep; may_be_absent = need.may_be_absent } }
+/// The context of the body, around which no call is open. The error is `Memory`.
+fn scope_of(context: &CompileContext<'_, '_, '_>, need: Need) -> Result<Scope, CompileError>
+    ensures scope { IfOk result (λ scope. scope ≡ scope_for context.now need) }
+    ensures refused { IfErr result IsMemoryOrTooComplex }
 {
-    Scope {
-        calls_left: 0,
+    Ok(Scope {
+        calls_left: max_open_calls(context.groups.len())?,
         may_keep: need.may_keep,
         may_be_absent: need.may_be_absent,
-    }
+    })
 }
 
 /// Gives each group with a body the slots for its open calls. The error is `Memory`.

@@ -18,13 +18,13 @@ ghost use Rattle.fancy_regex_program.specs.Machine.{unset};
 ghost use Rattle.fancy_regex_program.specs.Ops as op;
 ghost use Rattle.fancy_regex_program.specs.Ops.{op_of};
 ghost use Rattle.fancy_regex_compiler.specs.Needs.{AreAmong, Notes, IsNoted};
-ghost use Rattle.fancy_regex_compiler.specs.Refusals.{IsReasonWhere, IsExpandedPart, IsExpandedBody, IsExpandedRepeat, IsExpandedAbsent};
+ghost use Rattle.fancy_regex_compiler.specs.Refusals.{IsMemoryOrTooComplex, IsReasonWhere, IsExpandedPart, IsExpandedBody, IsExpandedRepeat, IsExpandedAbsent};
 ghost use Rattle.fancy_regex_compiler.specs.Refusals.{IsExpandedConditional, IsExpandedTarget, looks_behind};
-ghost use Rattle.fancy_regex_program.specs.Code.{written_out};
 ghost use Rattle.fancy_regex_compiler.specs.Tasks.{listed, node_pattern, body_pattern, whole_pattern, LeadsOn, EmitsTask, EmitsPattern, Begins};
-ghost use Rattle.fancy_regex_compiler.specs.Tasks.{IsAllowedTask, IsExpandedTask, EmitsAll, past, progress, task_room};
+ghost use Rattle.fancy_regex_compiler.specs.Tasks.{IsAllowedTask, IsExpandedTask, EmitsAll, past, progress, task_room, room_of};
 ghost use Rattle.fancy_regex_compiler.specs.Tasks.{call_work, info_work, infos_work, task_work, tasks_work};
-ghost use Rattle.fancy_regex_compiler.specs.Writing.{added, draft_of, draft_place, layout_of, with_op, closed_draft, infos_of, part};
+ghost use Rattle.fancy_regex_compiler.specs.Inlined.{draft_place};
+ghost use Rattle.fancy_regex_compiler.specs.Writing.{added, draft_of, layout_of, with_op, closed_draft, infos_of, part};
 ghost use Rattle.fancy_regex_compiler.specs.declared.emitter.CompileContext.{CompileContext as TheContext};
 ghost use Rattle.fancy_regex_compiler.specs.declared.emitter.Emitter.{Emitter as TheEmitter};
 ghost use Rattle.fancy_regex_compiler.specs.declared.emitter.Need.{Need as TheNeed};
@@ -935,7 +935,7 @@ fn emit_call<'i, 'e>(
         )?));
     }
     match context.drafts.get(target) {
-        Some(draft) => {
+        Some(Some(draft)) => {
             let need = Need {
                 group: target,
                 may_keep: scope.may_keep,
@@ -943,7 +943,7 @@ fn emit_call<'i, 'e>(
             };
             emit_kept_call(context, emitter, need, draft, slot)
         }
-        None => emit_written_call(context, emitter, target, scope, slot),
+        _ => emit_written_call(context, emitter, target, scope, slot),
     }
 }
 
@@ -1003,21 +1003,19 @@ fn emit_written_call<'i, 'e>(
     slot: usize,
 ) -> Result<Step<'i, 'e>, CompileError>
     requires there { target < vec_len context.now.groups.now }
-    requires written { layout_of context.now ≡ written_out }
+    requires inlined { layout_of context.now target ≡ None }
     ensures { EmitsPattern context.now
         (info_call (infos_of context.now) scope.calls_left emitter.old.opened.items target) scope.may_keep
         (λ tree_context. IsExpandedTarget tree_context scope.may_keep scope.may_be_absent (infos_of context.now) target)
         (1 + call_work (infos_of context.now) scope.calls_left target) emitter.old emitter.new slot result }
 {
-    if let Some(characters) = context
-        .texts
-        .characters(&emitter.opened, scope.calls_left, target)
+    if context
+        .inlined
+        .writes_nothing(&emitter.opened, scope.calls_left, target)
     {
-        if characters == 0 {
-            return Ok(leads_to(slot, Tasks::Nothing));
-        }
-        emitter.body.check_room(characters)?;
+        return Ok(leads_to(slot, Tasks::Nothing));
     }
+    check_text(context, emitter, target, scope)?;
     let body = context.groups[target];
     if is_at_call_limit(&emitter.opened, target) || scope.calls_left == 0 {
         emitter.body.flush_and_push(Insn::Fail)?;
@@ -1035,6 +1033,29 @@ fn emit_written_call<'i, 'e>(
             then: Task::EndCall,
         },
     ))
+}
+
+/// Refuses a call that writes nothing but characters at once where there is no room for them.
+fn check_text(
+    context: &CompileContext<'_, '_, '_>,
+    emitter: &Emitter,
+    target: usize,
+    scope: Scope,
+) -> Result<(), CompileError>
+    ensures full { IfErr result (IsFull emitter.now.body
+        (room_of context.now (info_call (infos_of context.now) scope.calls_left emitter.now.opened.items target))) }
+    ensures refused { IfErr result IsMemoryOrTooComplex }
+{
+    if !context.drafts.is_empty() {
+        return Ok(());
+    }
+    match context
+        .texts
+        .characters(&emitter.opened, scope.calls_left, target)
+    {
+        Some(characters) => emitter.body.check_room(characters),
+        None => Ok(()),
+    }
 }
 
 /// Whether the target is inlined as often as is allowed.

@@ -1,15 +1,14 @@
 //! The state of the compiler while it emits a program.
 
-ghost use Rattle.std.specs.Prelude.{◌≡◌, ◌≤◌, ◌+◌, ◌*◌, ◌^◌, ℕ, false, length, slice_get, Some, IfOk, IfErr};
-ghost use Rattle.std.specs.declared.alloc.Global.{Global as TheGlobal};
-ghost use Rattle.std.specs.declared.sync.Arc.{Arc as TheArc};
-ghost use Rattle.fancy_regex_program.specs.declared.insn.Callee.{Callee as TheCallee};
+ghost use Rattle.std.specs.Prelude.{◌≡◌, ◌≤◌, ◌+◌, ◌*◌, ◌^◌, ℕ, false, length, IfOk, IfErr};
 ghost use Rattle.fancy_regex_analysis.specs.AnalysisErrors.{is_too_complex};
 ghost use Rattle.fancy_regex_compiler.specs.CalledTexts.{AreTexts, infos_at};
+ghost use Rattle.fancy_regex_compiler.specs.Inlined.{AreNamed, AreLaidOut, AreSilent};
 ghost use Rattle.fancy_regex_compiler.specs.Refusals.{IsMemoryOrTooComplex};
 
 use crate::called_texts::CalledTexts;
 use crate::class_table::ClassTable;
+use crate::inlined_groups::InlinedGroups;
 use crate::part_table::PartTable;
 use crate::program_builder::ProgramBuilder;
 use fancy_regex_info::{CompileError, Info};
@@ -30,12 +29,16 @@ pub(crate) struct CompileContext<'g, 'i, 'e> {
     pub unicode: bool,
     /// The groups that write nothing but characters.
     pub texts: &'g CalledTexts,
-    /// A draft for each group, by its number, where calls stay calls: it stands for the group until its place is known. Where there is
-    /// none, calls are written out.
-    pub drafts: &'g Vec<Arc<Callee>>,
+    /// The groups whose calls are inlined also where calls stay calls.
+    pub inlined: &'g InlinedGroups,
+    /// A draft for each group whose calls stay, by its number: it stands for the group until its place is known. Where there is none, calls
+    /// are inlined.
+    pub drafts: &'g Vec<Option<Arc<Callee>>>,
     ghost are_texts: { AreTexts (infos_at groups.now.items) texts.now.lengths.items texts.now.known },
     ghost all_drafted: { (length drafts.now.items ≡ 0 → ⊥) → length drafts.now.items ≡ length groups.now.items },
-    ghost are_named: { (k : ℕ) (draft : TheArc TheCallee TheGlobal) → slice_get drafts.now.items k ≡ Some draft → draft.value.start ≡ k },
+    ghost are_silent: { AreSilent (infos_at groups.now.items) inlined.now.rooms.items inlined.now.known },
+    ghost are_named: { AreNamed drafts.now.items },
+    ghost laid_out: { AreLaidOut inlined.now.rooms.items drafts.now.items },
 }
 
 /// A group whose body is needed, since a call of it stays, and what is allowed where the call stands.

@@ -3,6 +3,7 @@
 //! for each node with calls inlined, and sixteen more. In longer programs the body of each called group stands once, and calls enter it.
 #![tactic(auto)]
 
+mod call_order;
 mod called_texts;
 mod calls;
 mod class_table;
@@ -11,6 +12,7 @@ mod compiler;
 mod emit;
 mod emitter;
 mod groups;
+mod inlined_groups;
 mod lazy;
 mod leaf;
 mod literal_table;

@@ -49,6 +49,7 @@ pub(crate) fn write_main<'i, 'e>(
 ) -> Result<usize, CompileError>
     requires begins { draft_of emitter.old.body ≡ record { ops = []; text = [] } }
     requires opened { emitter.old.opened.items ≡ [] }
+    ensures opened { IfOk result (λ _. emitter.new.opened.items ≡ []) }
     ensures cap { emitter.new.body.cap ≡ emitter.old.body.cap }
     ensures wrote { IfOk result (IsMain context.now (info_of info.now) anchored (draft_of emitter.new.body)) }
     ensures allowed { IfOk result (λ _. (all : List NeedOf) → AreAmong emitter.new.needs.items all →
@@ -72,7 +73,7 @@ pub(crate) fn write_main<'i, 'e>(
 }
 
 /// The greatest number of calls inlined inside of each other. The error is `Memory`, only if it exceeds `usize`.
-fn max_open_calls(groups: usize) -> Result<usize, CompileError>
+pub(crate) fn max_open_calls(groups: usize) -> Result<usize, CompileError>
     ensures value { IfOk result (λ calls. calls ≡ 19 * groups) }
     ensures past { IfErr result (λ _. 2 ^ 64 ≤ 19 * groups) }
     ensures full { IfErr result (λ e. is_too_complex e ≡ false) }

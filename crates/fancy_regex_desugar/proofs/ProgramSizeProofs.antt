@@ -163,6 +163,15 @@ module _ (groups : List Tree) where
         (λ body. record { is = (fit _ _ (fit_calls m (k ∷ opened)) (k + 1) body).front })).is;
   }
 
+-- a part of a pattern, and a whole one, by how many nodes each call counts
+pub part_has_room : (groups : List Tree) (pat : ℕ → CorePattern) (call : ℕ → ℕ) → ((k : ℕ) → Fits (pat k) (call k)) → (n : ℕ) (t : Tree) →
+    BothFit (written groups pat n t) (nodes_with call t)
+part_has_room groups pat call fits n t = fit groups pat call fits n t
+
+pub whole_has_room : (groups : List Tree) (pat : ℕ → CorePattern) (call : ℕ → ℕ) → ((k : ℕ) → Fits (pat k) (call k)) → (n : ℕ) (t : Tree) →
+    Fits (written_whole groups pat n t) (nodes_with call t)
+whole_has_room groups pat call fits n t = fit_whole groups pat call fits n t
+
 pub unfolded_has_room : UnfoldedSizeIsBounded
 unfolded_has_room groups m opened n t =
     let h = fit groups _ _ (fit_calls groups m opened) n t in

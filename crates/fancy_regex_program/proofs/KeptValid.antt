@@ -9,7 +9,7 @@ use Rattle.fancy_regex_desugar.specs.CorePatterns.{CorePattern}
 use Rattle.fancy_regex_program.specs.Ops as op
 use Rattle.fancy_regex_program.specs.Ops.{Op, Place}
 use Rattle.fancy_regex_program.specs.Code.{Layout, Code, slots_with, waits_with, closed, code_with}
-use Rattle.fancy_regex_program.specs.Layouts.{IsPlaced, CallsStay, body_with_calls, body_code, main_code, HasBody, IsKept}
+use Rattle.fancy_regex_program.specs.Layouts.{IsPlaced, CallsAreLaidOut, AreWrittenOut, body_pattern, body_code, main_code, HasBody, IsKept}
 use Rattle.fancy_regex_program.specs.Assembled.{Body, return_code, stretch, stretches, StandFrom, IsAssembled, IsBodyOf}
 use Rattle.fancy_regex_program.specs.Shapes.{IsWritable}
 use Rattle.fancy_regex_program.specs.ValidPrograms.{HasPlace, IsValidProgram}
@@ -97,18 +97,18 @@ module _ (has_member : Text → Bool → ℕ → Bool) (fold : ℕ → ℕ) (who
         let ok : IsValidProgram whole_row slots = record { last = finish_last (main ++ row bodies) whole_row (simp append_assoc); ops = are_valid_ops slots whole_row all } in
         subst P (sym is.made.is) ok
 
-    module _ (groups : List Tree) (each : All (IsBodyOf layout groups) bodies) where
-      is_body : (n : ℕ) (b : Body) → slice_get bodies n ≡ Some b → IsBodyOf layout groups b
-      is_body n b at = let P = IsBodyOf layout groups in subst P (get_or_from_slice_get bodies n b b at) (All-get_or P bodies n b (slice_get_within bodies n b at) each)
+    module _ (groups : List Tree) (is_written_out : ℕ → Bool) (each : All (IsBodyOf layout is_written_out groups) bodies) where
+      is_body : (n : ℕ) (b : Body) → slice_get bodies n ≡ Some b → IsBodyOf layout is_written_out groups b
+      is_body n b at = let P = IsBodyOf layout is_written_out groups in subst P (get_or_from_slice_get bodies n b b at) (All-get_or P bodies n b (slice_get_within bodies n b at) each)
 
-      has_body : (k : ℕ) (c : Place) → layout k ≡ Some c → HasBody has_member fold whole layout groups code k c
+      has_body : (k : ℕ) (c : Place) → layout k ≡ Some c → HasBody has_member fold whole layout groups is_written_out code k c
       has_body k c e =
           let from = is.each k c e in
           let b = from.body in
           let body = is_body from.index b from.at in
           let at = stands_at has_member fold whole layout (length main) bodies from.index b is.made.stand from.at in
-          let q = body_with_calls groups k body.tree in
-          let same : b.pattern ≡ q = body.pattern ∙ ap (λ j. body_with_calls groups j body.tree) from.group in
+          let q = body_pattern groups k body.tree in
+          let same : b.pattern ≡ q = body.pattern ∙ ap (λ j. body_pattern groups j body.tree) from.group in
           let within : CorePattern → Code = λ x. closed (code_with has_member fold whole layout x []) (waits_with layout x []) in
           let here_is : here b ≡ body_code has_member fold whole layout c q =
           ap (λ x. within x b.start b.first ++ return_code (layout b.group)) same
@@ -118,7 +118,7 @@ module _ (has_member : Text → Bool → ℕ → Bool) (fold : ℕ → ℕ) (who
           record {
             tree = body.tree;
             is_target = ap (target groups) (sym from.group) ∙ body.is_target;
-            calls = subst (CallsStay layout) same body.calls;
+            calls = subst (CallsAreLaidOut layout is_written_out) same body.calls;
             own = ap (slots_with layout) (sym same) ∙ sym at.own ∙ sym from.own;
             before = main ++ at.before;
             after = at.after ++ end;
@@ -128,11 +128,14 @@ module _ (has_member : Text → Bool → ℕ → Bool) (fold : ℕ → ℕ) (who
             start = omega (arith, length-append main at.before, from.start, at.start);
           }
 
-    pub assembled_is_kept : (groups : List Tree) → All (IsBodyOf layout groups) bodies → IsKept has_member fold whole layout anchored count groups p code slots
-    assembled_is_kept groups each = record {
+    pub assembled_is_kept : (groups : List Tree) (is_written_out : ℕ → Bool) → AreWrittenOut layout groups is_written_out → All (IsBodyOf layout is_written_out groups) bodies →
+        IsKept has_member fold whole layout anchored count groups p code slots
+    assembled_is_kept groups is_written_out written_out each = record {
       bodies = row bodies ++ op.finish ∷ [];
       main = is.made.is;
-      each = has_body groups each;
+      is_written_out = is_written_out;
+      written_out = written_out;
+      each = has_body groups is_written_out each;
       bodies_end = is.bodies_end;
       apart = is.apart;
       room = is.room;

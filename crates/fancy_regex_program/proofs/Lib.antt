@@ -12,6 +12,8 @@ pub mod ValidSpans
 pub mod Sending
 pub mod WrittenParts
 pub mod CodeParts
+pub mod OpenCalls
+pub mod WrittenOut
 pub mod SameCode
 pub mod Resolved
 pub mod Stretches

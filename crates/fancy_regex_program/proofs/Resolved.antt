@@ -1,19 +1,24 @@
 -- A program whose calls have drafts becomes the program over the places, where each draft gets the place of its group.
-use Rattle.std.proofs.Common.{◌≡◌, ℕ, zero, suc, ◌+◌, ◌*◌, Bool, true, false, cond, ◌&&◌, List, [], ◌∷◌, ◌++◌, map, length, Option, Some, None, option_map, refl, sym, ap, ap₂, subst, ◌∙◌}
+use Rattle.std.proofs.Common.{◌≡◌, ℕ, zero, suc, ◌+◌, ◌*◌, Bool, true, false, cond, ◌&&◌, List, [], ◌∷◌, ◌++◌, map, length, Option, Some, None, option_map, refl, sym, ap, ap₂, subst, ⊎_elim, ◌∙◌}
 use Rattle.std.specs.Prelude.{is_some, nat_le, slice_get, All}
 use Rattle.std.specs.List.{list_all}
 use Rattle.std.proofs.lemmas.List.{map-append, length-map}
 use Rattle.std.proofs.lemmas.List.Elements.{All-head, All-tail}
-use Rattle.std.proofs.lemmas.Option.{slice_get-map}
-use Rattle.fancy_regex_tree.specs.Tree.{Text}
+use Rattle.std.proofs.lemmas.Option.{none-some, slice_get-map}
+use Rattle.fancy_regex_tree.specs.Tree.{Text, Tree}
+use Rattle.fancy_regex_meaning.specs.Sizes.{target}
+use Rattle.fancy_regex_meaning.specs.Ways.{is_at_call_limit}
 use Rattle.fancy_regex_desugar.specs.CorePatterns.{any, literal, class, CorePattern, nothing, read, general_newline, check, continue, keep_out, fail, cat, alt, group, ahead, never, back, atomic, delegate, tail, repeat, backref, exists, conditional, absent, called}
+use Rattle.fancy_regex_desugar.specs.Unfolded.{pat_for, written, written_call, written_whole, unfolded}
 use Rattle.fancy_regex_program.specs.Ops as op
 use Rattle.fancy_regex_program.specs.Ops.{Op, Place}
 use Rattle.fancy_regex_program.specs.Code.{Layout, slots_with, waits_with, is_whole_literal, flushed, Code, closed, after_text, one, row_code, alt_code, group_code, ahead_code, never_code, atomic_code, tail_code, repeat_code, is_uncounted, split_by, loop_entry, loop_head, loop_code, conditional_code, absent_code, code_with, leaf_op, opening, closing}
-use Rattle.fancy_regex_program.specs.Layouts.{CallsStay, main_code}
+use Rattle.fancy_regex_program.specs.Layouts.{IsLaidOut, CallsAreLaidOut, AreWrittenOut, main_code}
 use Rattle.fancy_regex_program.specs.Assembled.{Body, or_draft, resolved, IsDraftOf, AreDrafts, IsDrafted, IsDraftedBody, return_code, stretch, stretches, StandFrom, IsMadeOf}
 use Rattle.fancy_regex_program.specs.Reading.{stays, passing_of, reads_past, reads_from, reading_depth, always_reads}
 use Rattle.fancy_regex_program.proofs.CodeParts.{Part, shut, apart_from, cat_part, alt_part, group_part, ahead_part, never_part, atomic_part, tail_part, loop_part, repeat_part, conditional_part, absent_part, call_part, part_with}
+use Rattle.fancy_regex_program.proofs.WrittenParts.{PartByPart, of_tree, of_whole}
+use Rattle.fancy_regex_program.proofs.WrittenOut.{is_call, lower_calls, calls_lower, of_lower}
 
 -- over the places
 module _ (table : Layout) where
@@ -344,8 +349,8 @@ module _ (table : Layout) where
           stand = subst P long (resolved_stand bodies (length main) each made.stand);
         }
 
--- Where each call stays over the places, each has a draft.
-module _ (drafts table : Layout) (are : IsDrafted drafts table) where
+-- Where calls stay over the places, they have drafts, and others are written out over both.
+module _ (drafts table : Layout) (is_written_out : ℕ → Bool) (are : IsDrafted drafts table is_written_out) where
   stays_here : (k : ℕ) (o q : Option Place) (Inside : Type 0) → drafts k ≡ o → table k ≡ q → is_some q ≡ true → IsDraftOf k o q Inside
   stays_here k o None Inside eo eq stays = absurd cc
   stays_here k None (Some d) Inside eo eq stays =
@@ -353,26 +358,107 @@ module _ (drafts table : Layout) (are : IsDrafted drafts table) where
       absurd (cc (are.covers k covered))
   stays_here k (Some c) (Some d) Inside eo eq stays = are.named k c eo
 
-  pub stays_drafted : (p : CorePattern) → CallsStay table p → AreDrafts drafts table p
-  stays_drafted (cat a b) h = (stays_drafted a h.0, stays_drafted b h.1)
-  stays_drafted (alt a b) h = (stays_drafted a h.0, stays_drafted b h.1)
-  stays_drafted (group k a) h = stays_drafted a h
-  stays_drafted (ahead a) h = stays_drafted a h
-  stays_drafted (never a) h = stays_drafted a h
-  stays_drafted (atomic a) h = stays_drafted a h
-  stays_drafted (tail t a) h = stays_drafted a h
-  stays_drafted (repeat a lo hi greedy) h = stays_drafted a h
-  stays_drafted (conditional c a b) h = (stays_drafted c h.0, stays_drafted a h.1, stays_drafted b h.2)
-  stays_drafted (absent a) h = stays_drafted a h
-  stays_drafted (called k a) h = stays_here k (drafts k) (table k) (AreDrafts drafts table a) refl refl h
-  stays_drafted nothing h = tt
-  stays_drafted (read c) h = tt
-  stays_drafted (general_newline unicode) h = tt
-  stays_drafted (check a) h = tt
-  stays_drafted continue h = tt
-  stays_drafted keep_out h = tt
-  stays_drafted fail h = tt
-  stays_drafted (back n) h = tt
-  stays_drafted (delegate t a) h = tt
-  stays_drafted (backref k casei) h = tt
-  stays_drafted (exists k) h = tt
+  out_here : (k : ℕ) (o q : Option Place) (Inside : Type 0) → o ≡ None → q ≡ None → Inside → IsDraftOf k o q Inside
+  out_here k None None Inside eo eq h = h
+  out_here k o (Some d) Inside eo eq h = absurd (none-some d (sym eq))
+  out_here k (Some c) q Inside eo eq h = absurd (none-some c (sym eo))
+
+  -- Where the first is laid out over the places, the second has drafts.
+  abbrev pub Drafted : CorePattern → CorePattern → Type 0
+  Drafted p q = CallsAreLaidOut table is_written_out p → AreDrafts drafts table q
+
+  pub drafted_parts : PartByPart Drafted
+  drafted_parts = record {
+    of_nothing = λ s. tt;
+    of_read = λ c s. tt;
+    of_newline = λ unicode s. tt;
+    of_check = λ a s. tt;
+    of_continue = λ s. tt;
+    of_keep_out = λ s. tt;
+    of_fail = λ s. tt;
+    of_back = λ n s. tt;
+    of_backref = λ k casei s. tt;
+    of_exists = λ k s. tt;
+    of_cat = λ a b c d h k s. (h s.0, k s.1);
+    of_alt = λ a b c d h k s. (h s.0, k s.1);
+    of_group = λ k a b h s. h s;
+    of_ahead = λ a b h s. h s;
+    of_never = λ a b h s. h s;
+    of_atomic = λ a b h s. h s;
+    of_delegate = λ t a b h s. tt;
+    of_tail = λ t a b h s. h s;
+    of_repeat = λ a b lo hi greedy h s. h s;
+    of_conditional = λ a b c d e f h k l s. (h s.0, k s.1, l s.2);
+    of_absent = λ a b h s. h s;
+  }
+
+  -- the same, wherever it is laid out
+  pub has_drafts_parts : PartByPart (λ p q. AreDrafts drafts table q)
+  has_drafts_parts = record {
+    of_nothing = tt;
+    of_read = λ c. tt;
+    of_newline = λ unicode. tt;
+    of_check = λ a. tt;
+    of_continue = tt;
+    of_keep_out = tt;
+    of_fail = tt;
+    of_back = λ n. tt;
+    of_backref = λ k casei. tt;
+    of_exists = λ k. tt;
+    of_cat = λ a b c d h k. (h, k);
+    of_alt = λ a b c d h k. (h, k);
+    of_group = λ k a b h. h;
+    of_ahead = λ a b h. h;
+    of_never = λ a b h. h;
+    of_atomic = λ a b h. h;
+    of_delegate = λ t a b h. tt;
+    of_tail = λ t a b h. h;
+    of_repeat = λ a b lo hi greedy h. h;
+    of_conditional = λ a b c d e f h k l. (h, k, l);
+    of_absent = λ a b h. h;
+  }
+
+  -- a call that stays
+  pub drafted_kept : (k : ℕ) (a : CorePattern) → is_some (table k) ≡ true → AreDrafts drafts table (called k a)
+  drafted_kept k a stays = stays_here k (drafts k) (table k) (AreDrafts drafts table a) refl refl stays
+
+  module _ (groups : List Tree) (out : AreWrittenOut table groups is_written_out) where
+    -- a call that is written out
+    pub drafted_out : (k : ℕ) (a : CorePattern) → is_written_out k ≡ true → AreDrafts drafts table a → AreDrafts drafts table (called k a)
+    drafted_out k a is_out h = out_here k (drafts k) (table k) (AreDrafts drafts table a) (are.none k is_out) (out.none k is_out) h
+
+    drafted_inside : (m : ℕ) (opened : List ℕ) (k : ℕ) → is_written_out k ≡ true →
+        ((j : ℕ) → is_written_out j ≡ true → AreDrafts drafts table (written_call groups m (k ∷ opened) j)) → (b : Bool) (u : Option Tree) → target groups k ≡ u →
+        AreDrafts drafts table (cond b fail (pat_for (λ body. (written groups (written_call groups m (k ∷ opened)) (k + 1) body).front) u))
+    drafted_inside m opened k is_out calls true u at = tt
+    drafted_inside m opened k is_out calls false None at = tt
+    drafted_inside m opened k is_out calls false (Some t) at =
+        let call = written_call groups m (k ∷ opened) in
+        let lower = lower_calls groups table is_written_out out k call in
+        let fits : (j : ℕ) → AreDrafts drafts table (lower j) =
+        of_lower groups table is_written_out out (λ p. AreDrafts drafts table p) tt k call (λ j out_j less. calls j out_j) in
+        let all = (of_tree (λ p q. AreDrafts drafts table q) has_drafts_parts groups lower lower fits (k + 1) t).front in
+        subst (AreDrafts drafts table) (sym (calls_lower groups table is_written_out out k t is_out at call)) all
+
+    pub drafted_call : (m : ℕ) (opened : List ℕ) (k : ℕ) → is_written_out k ≡ true → AreDrafts drafts table (written_call groups m opened k)
+    unfolding written_call
+    drafted_call zero opened k is_out = drafted_out k fail is_out tt
+    drafted_call (suc m) opened k is_out =
+        drafted_out k (cond (is_at_call_limit opened k) fail (pat_for (λ body. (written groups (written_call groups m (k ∷ opened)) (k + 1) body).front) (target groups k))) is_out
+        (drafted_inside m opened k is_out (drafted_call m (k ∷ opened)) (is_at_call_limit opened k) (target groups k) refl)
+
+    drafted_either : (m : ℕ) (opened : List ℕ) (k : ℕ) → Drafted (written_call groups m opened k) (written_call groups m opened k)
+    drafted_either m opened k laid_out =
+        let call = is_call groups m opened k in
+        let is : IsLaidOut table is_written_out k = subst (CallsAreLaidOut table is_written_out) call.is laid_out in
+        ⊎_elim (λ (stays : is_some (table k) ≡ true). subst (AreDrafts drafts table) (sym call.is) (drafted_kept k call.inside stays))
+        (λ (is_out : is_written_out k ≡ true). drafted_call m opened k is_out) is
+
+    -- a part of the pattern, or a body
+    pub part_drafted : (m : ℕ) (opened : List ℕ) (n : ℕ) (t : Tree) → CallsAreLaidOut table is_written_out (unfolded groups m opened n t) → AreDrafts drafts table (unfolded groups m opened n t)
+    part_drafted m opened n t = (of_tree Drafted drafted_parts groups (written_call groups m opened) (written_call groups m opened) (drafted_either m opened) n t).front
+
+    -- a whole pattern
+    pub whole_drafted : (m : ℕ) (opened : List ℕ) (n : ℕ) (t : Tree) → CallsAreLaidOut table is_written_out (written_whole groups (written_call groups m opened) n t) →
+        AreDrafts drafts table (written_whole groups (written_call groups m opened) n t)
+    whole_drafted m opened n t = of_whole Drafted drafted_parts groups (written_call groups m opened) (written_call groups m opened) (drafted_either m opened) n t

@@ -1,15 +1,18 @@
--- The code of a pattern whose calls stay does not depend on what stands for their targets' bodies.
-use Rattle.std.proofs.Common.{◌≡◌, ℕ, zero, suc, Bool, true, List, Option, Some, None, refl, ap, ap₂, ◌∙◌}
+-- The code of a body does not depend on the calls that are open around it.
+use Rattle.std.proofs.Common.{◌≡◌, ℕ, Bool, true, List, [], length, Option, Some, None, refl, sym, ap, ap₂, ◌∙◌, subst, ⊎_elim}
 use Rattle.std.specs.Prelude.{is_some}
 use Rattle.fancy_regex_tree.specs.Tree.{Text, Tree}
-use Rattle.fancy_regex_desugar.specs.CorePatterns.{CorePattern, fail, repeat, called}
-use Rattle.fancy_regex_desugar.specs.Unfolded.{written, written_call}
+use Rattle.fancy_regex_meaning.specs.Ways.{max_open_calls}
+use Rattle.fancy_regex_desugar.specs.CorePatterns.{CorePattern, repeat}
+use Rattle.fancy_regex_desugar.specs.Unfolded.{written_call, unfolded}
 use Rattle.fancy_regex_program.specs.Ops as op
 use Rattle.fancy_regex_program.specs.Ops.{Place}
 use Rattle.fancy_regex_program.specs.Code.{Layout, slots_with, code_with}
-use Rattle.fancy_regex_program.specs.Layouts.{CallsStay}
+use Rattle.fancy_regex_program.specs.Layouts.{IsLaidOut, CallsAreLaidOut, AreWrittenOut}
 use Rattle.fancy_regex_program.proofs.CodeParts.{Part, shut, cat_part, alt_part, group_part, ahead_part, never_part, atomic_part, tail_part, loop_part, repeat_part, conditional_part, absent_part, call_part, part_with}
 use Rattle.fancy_regex_program.proofs.WrittenParts.{PartByPart, of_tree}
+use Rattle.fancy_regex_program.proofs.OpenCalls.{AreOpen, none_open}
+use Rattle.fancy_regex_program.proofs.WrittenOut.{is_call, NoneIsOut, none_is_above, same_written_out}
 
 module _ (has_member : Text → Bool → ℕ → Bool) (fold : ℕ → ℕ) (whole : Bool) (layout : Layout) where
   abbrev P : CorePattern → Part
@@ -26,9 +29,9 @@ module _ (has_member : Text → Bool → ℕ → Bool) (fold : ℕ → ℕ) (who
   pub same_slots : (p q : CorePattern) → SameCode p q → slots_with layout p ≡ slots_with layout q
   same_slots p q h = ap (λ (a : Part). a.slots) h
 
-  -- the same where the calls stay
-  abbrev pub Same : CorePattern → CorePattern → Type 0
-  Same p q = CallsStay layout p → SameCode p q
+  -- the same where the calls stay or are written out
+  abbrev pub Same : (ℕ → Bool) → CorePattern → CorePattern → Type 0
+  Same is_written_out p q = CallsAreLaidOut layout is_written_out p → SameCode p q
 
   same_repeat : (a b : CorePattern) (lo : ℕ) (hi : Option ℕ) (greedy : Bool) → SameCode a b → SameCode (repeat a lo hi greedy) (repeat b lo hi greedy)
   unfolding code_with
@@ -39,9 +42,9 @@ module _ (has_member : Text → Bool → ℕ → Bool) (fold : ℕ → ℕ) (who
   same_call None a b stays = absurd cc
   same_call (Some c) a b stays = refl
 
-  same_parts : PartByPart Same
+  same_parts : (is_written_out : ℕ → Bool) → PartByPart (Same is_written_out)
   unfolding code_with
-  same_parts = record {
+  same_parts is_written_out = record {
     of_nothing = λ s. refl;
     of_read = λ c s. refl;
     of_newline = λ unicode s. refl;
@@ -65,15 +68,30 @@ module _ (has_member : Text → Bool → ℕ → Bool) (fold : ℕ → ℕ) (who
     of_absent = λ a b h s. ap absent_part (h s);
   }
 
-  module _ (groups : List Tree) where
-    -- what a call is, whatever calls are left
-    same_written_call : (m : ℕ) (opened : List ℕ) (k : ℕ) → Same (called k fail) (written_call groups m opened k)
-    unfolding written_call code_with
-    same_written_call zero opened k s = refl
-    same_written_call (suc m) opened k s = same_call (layout k) (P fail) _ s
+  module _ (groups : List Tree) (is_written_out : ℕ → Bool) (are : AreWrittenOut layout groups is_written_out) where
+    -- a call that stays, whatever calls are open around it
+    same_kept : (m m' : ℕ) (opened opened' : List ℕ) (k : ℕ) → is_some (layout k) ≡ true → SameCode (written_call groups m opened k) (written_call groups m' opened' k)
+    unfolding code_with
+    same_kept m m' opened opened' k stays =
+        let one = is_call groups m opened k in
+        let two = is_call groups m' opened' k in
+        ap P one.is ∙ same_call (layout k) (P one.inside) (P two.inside) stays ∙ sym (ap P two.is)
 
-    -- A body whose calls stay has the same code wherever it is called.
-    pub same_body : (m : ℕ) (opened : List ℕ) (n : ℕ) (t : Tree) → CallsStay layout (written groups (λ j. called j fail) n t).front →
-        SameCode (written groups (λ j. called j fail) n t).front (written groups (written_call groups m opened) n t).front
-    same_body m opened n t =
-        (of_tree Same same_parts groups (λ j. called j fail) (written_call groups m opened) (same_written_call m opened) n t).front
+    -- a call that stays or is written out, where none that is written out is open
+    same_laid_out : (m m' : ℕ) (opened opened' : List ℕ) → AreOpen (length groups) opened m → AreOpen (length groups) opened' m' → NoneIsOut groups layout is_written_out are opened →
+        NoneIsOut groups layout is_written_out are opened' → (k : ℕ) → Same is_written_out (written_call groups m opened k) (written_call groups m' opened' k)
+    same_laid_out m m' opened opened' around around' none none' k laid_out =
+        let call = is_call groups m opened k in
+        let is : IsLaidOut layout is_written_out k = subst (CallsAreLaidOut layout is_written_out) call.is laid_out in
+        ⊎_elim (λ (stays : is_some (layout k) ≡ true). same_kept m m' opened opened' k stays)
+        (λ (out : is_written_out k ≡ true).
+        ap P (same_written_out groups layout is_written_out are m m' opened opened' around around' k out
+        (none_is_above groups layout is_written_out are (are.rank k) opened none) (none_is_above groups layout is_written_out are (are.rank k) opened' none')))
+        is
+
+    -- A body whose calls stay or are written out has the same code wherever it is called.
+    pub same_body : (m : ℕ) (opened : List ℕ) → AreOpen (length groups) opened m → NoneIsOut groups layout is_written_out are opened → (n : ℕ) (t : Tree) →
+        CallsAreLaidOut layout is_written_out (unfolded groups (max_open_calls groups) [] n t) → SameCode (unfolded groups (max_open_calls groups) [] n t) (unfolded groups m opened n t)
+    same_body m opened around none n t =
+        (of_tree (Same is_written_out) (same_parts is_written_out) groups (written_call groups (max_open_calls groups) []) (written_call groups m opened)
+        (same_laid_out (max_open_calls groups) m [] opened (none_open (length groups)) around tt none) n t).front

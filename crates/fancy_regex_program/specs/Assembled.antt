@@ -6,7 +6,7 @@ use Rattle.fancy_regex_desugar.specs.CorePatterns.{CorePattern, cat, alt, group,
 use Rattle.fancy_regex_program.specs.Ops as op
 use Rattle.fancy_regex_program.specs.Ops.{Op, Place}
 use Rattle.fancy_regex_program.specs.Code.{Layout, slots_with, waits_with, closed, code_with}
-use Rattle.fancy_regex_program.specs.Layouts.{AreApart, CallsStay, body_with_calls, main_code}
+use Rattle.fancy_regex_program.specs.Layouts.{AreApart, CallsAreLaidOut, body_pattern, main_code}
 
 -- A body: its group, its first operation, the first of its own slots and how many they are, and its pattern.
 pub record Body : Type 0 where
@@ -54,10 +54,12 @@ AreDrafts drafts table (absent a) = AreDrafts drafts table a
 AreDrafts drafts table (called k a) = IsDraftOf k (drafts k) (table k) (AreDrafts drafts table a)
 AreDrafts drafts table _ = Unit {0}
 
--- The first layout has drafts alone, one at least for each group that has a place in the second.
-pub record IsDrafted (drafts table : Layout) : Type 0 where
+-- The first layout has drafts alone, one at least for each group that has a place in the second, and none for those whose calls are
+-- written out.
+pub record IsDrafted (drafts table : Layout) (is_written_out : ℕ → Bool) : Type 0 where
   pub named : (k : ℕ) (c : Place) → drafts k ≡ Some c → c.start ≡ k
   pub covers : (k : ℕ) → is_some (table k) ≡ true → is_some (drafts k) ≡ true
+  pub none : (k : ℕ) → is_written_out k ≡ true → drafts k ≡ None
 
 -- The body has a draft and a place, and so has each call in its pattern that stays.
 pub record IsDraftedBody (drafts table : Layout) (b : Body) : Type 0 where
@@ -107,9 +109,9 @@ module _ (has_member : Text → Bool → ℕ → Bool) (fold : ℕ → ℕ) (who
     pub apart : AreApart layout (2 * count + slots_with layout p) bodies_end slots
     pub room : 2 * count + slots_with layout p ≤ slots
 
--- The pattern of the body is that of its group, and all of its calls stay.
-pub record IsBodyOf (layout : Layout) (groups : List Tree) (b : Body) : Type 0 where
+-- The pattern of the body is that of its group. Its calls stay, or they are of groups whose calls are written out.
+pub record IsBodyOf (layout : Layout) (is_written_out : ℕ → Bool) (groups : List Tree) (b : Body) : Type 0 where
   pub tree : Tree
   pub is_target : target groups b.group ≡ Some tree
-  pub pattern : b.pattern ≡ body_with_calls groups b.group tree
-  pub calls : CallsStay layout b.pattern
+  pub pattern : b.pattern ≡ body_pattern groups b.group tree
+  pub calls : CallsAreLaidOut layout is_written_out b.pattern

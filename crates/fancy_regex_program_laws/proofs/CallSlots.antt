@@ -1,34 +1,15 @@
 -- The slots of calls that stay: what a call writes, and what a return puts back.
-use Rattle.std.proofs.Common.{◌≡◌, ℕ, zero, suc, ◌+◌, ◌-◌, ◌*◌, ◌<◌, ◌≤◌, true, false, ◌⊎◌, inl, inr, ⊎_elim, List, ◌∷◌, length, take, get_or, set, Some, refl, sym, ap, ◌∙◌, subst, arith, length-set, get_or-set_same, get_or-set_other, cond}
-use Rattle.std.specs.Prelude.{◌==◌, count_by}
+use Rattle.std.proofs.Common.{◌≡◌, ℕ, zero, suc, ◌+◌, ◌-◌, ◌*◌, ◌<◌, ◌≤◌, ◌⊎◌, inl, inr, ⊎_elim, List, ◌∷◌, length, take, get_or, set, Some, refl, sym, ap, ◌∙◌, subst, arith, length-set, get_or-set_same, get_or-set_other, cond}
 use Rattle.std.proofs.Math.Nat.{mul-le-mul_right}
 use Rattle.std.proofs.lemmas.Bool.{cases_lt}
 use Rattle.std.proofs.lemmas.List.{take-set-le}
-use Rattle.std.proofs.lemmas.List.Sums.{sum_by-cons}
 use Rattle.std.proofs.lemmas.Option.{same_Some}
 use Rattle.fancy_regex_program.specs.Ops.{Place}
 use Rattle.fancy_regex_program.specs.Machine.{unset, frame_of, copied, kept, taken_back, open_calls}
 use Rattle.fancy_regex_program.specs.Code.{Layout}
 use Rattle.fancy_regex_program.specs.Layouts.{frames_end, IsPlaced, AreApart}
-use Rattle.fancy_regex_program_laws.proofs.Runs.{Keep, eq_self, eq_other, eq_yes, eq_no}
-
--- how many of the open calls are of the group
-abbrev pub calls_of : ℕ → List ℕ → ℕ
-calls_of k opened = count_by (λ j. j == k) opened
-
-pub one_call_more : (k : ℕ) (opened : List ℕ) → calls_of k (k ∷ opened) ≡ suc (calls_of k opened)
-one_call_more k opened = sum_by-cons (λ j. cond (j == k) 1 0) k opened ∙ ap (λ b. cond b 1 0 + calls_of k opened) (eq_self k) ∙ omega arith
-
-pub no_call_more : (k j : ℕ) (opened : List ℕ) → (k ≡ j → ⊥) → calls_of k (j ∷ opened) ≡ calls_of k opened
-no_call_more k j opened ne = sum_by-cons (λ i. cond (i == k) 1 0) j opened ∙ ap (λ b. cond b 1 0 + calls_of k opened) (eq_other j k (λ e. ne (sym e))) ∙ omega arith
-
-pub same_or_not : (k j : ℕ) → (k ≡ j) ⊎ (k ≡ j → ⊥)
-same_or_not k j = (elim (k == j) as (λ b. (k == j) ≡ b → (k ≡ j) ⊎ (k ≡ j → ⊥)) [ true ↦ λ e. inl (eq_yes k j e) | false ↦ λ e. inr (eq_no k j e) ]) refl
-
-pub no_fewer : (k j : ℕ) (opened : List ℕ) → calls_of k opened ≤ calls_of k (j ∷ opened)
-no_fewer k j opened =
-    ⊎_elim (λ (e : k ≡ j). subst (λ i. calls_of k opened ≤ calls_of k (i ∷ opened)) e (omega (arith, one_call_more k opened)))
-    (λ (ne : k ≡ j → ⊥). omega (arith, no_call_more k j opened ne)) (same_or_not k j)
+use Rattle.fancy_regex_program.proofs.OpenCalls.{calls_of, one_call_more, no_call_more, same_or_not, no_fewer}
+use Rattle.fancy_regex_program_laws.proofs.Runs.{Keep, eq_self, eq_other}
 
 -- What is copied.
 pub copied_long : (from to n : ℕ) (m : List ℕ) → length (copied from to n m) ≡ length m

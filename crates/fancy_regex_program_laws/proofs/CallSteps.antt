@@ -9,10 +9,11 @@ use Rattle.fancy_regex_program.specs.Machine.{RunParameters, Move, goes, fails, 
 use Rattle.fancy_regex_program.specs.Code.{Layout}
 use Rattle.fancy_regex_program.specs.Layouts.{frames_end, AreApart}
 use Rattle.fancy_regex_program.specs.SlotLayout.{slots_of_way}
+use Rattle.fancy_regex_program.proofs.OpenCalls.{calls_of, one_call_more}
 use Rattle.fancy_regex_program_laws.proofs.Denote.{Denotation}
 use Rattle.fancy_regex_program_laws.proofs.Runs.{Keep, Ready, Same, thread, lt_yes, lt_no, by_move, Does}
 use Rattle.fancy_regex_program_laws.proofs.ProgramParts.{plain_at}
-use Rattle.fancy_regex_program_laws.proofs.CallSlots.{calls_of, one_call_more, slots_entered, slots_after, IsRegion, kept_still, entered_long, after_long, take_entered, take_after, entered_counts, own_region, many, comes_back_to, live_back, kept_after, keep_in}
+use Rattle.fancy_regex_program_laws.proofs.CallSlots.{slots_entered, slots_after, IsRegion, kept_still, entered_long, after_long, take_entered, take_after, entered_counts, own_region, many, comes_back_to, live_back, kept_after, keep_in}
 
 le_yes : (a b : ℕ) → a ≤ b → nat_le a b ≡ true
 le_yes a b h = grind (arith, nat_tests)

@@ -1,16 +1,13 @@
 -- A program in which calls stay answers the search of its pattern.
 use Rattle.std.proofs.Common.{◌≡◌, ℕ, zero, suc, ◌+◌, ◌*◌, ◌<◌, ◌≤◌, Bool, true, false, ⊎_elim, List, [], ◌∷◌, ◌++◌, length, Option, Some, None, refl, sym, ap, ◌∙◌, subst, arith, cond}
-use Rattle.std.specs.Prelude.{replicate, nat_le}
-use Rattle.std.proofs.lemmas.Bool.{cases_lt}
-use Rattle.std.proofs.lemmas.Bool.Decides.{nat_tests}
+use Rattle.std.specs.Prelude.{replicate}
 use Rattle.std.proofs.lemmas.List.{get_or-replicate}
-use Rattle.std.proofs.lemmas.Option.{none-some, same_Some, slice_get_past}
+use Rattle.std.proofs.lemmas.Option.{none-some, same_Some}
 use Rattle.std.specs.Str.{IsUtf8}
 use Rattle.fancy_regex_tree.specs.Tree.{Tree}
 use Rattle.fancy_regex_meaning.specs.Groups.{Pattern}
 use Rattle.fancy_regex_meaning.specs.Sizes.{target}
 use Rattle.fancy_regex_meaning.specs.Ways.{is_at_call_limit, max_open_calls, max_open_calls_per_group}
-use Rattle.fancy_regex_meaning.specs.WayLaws.{Each}
 use Rattle.fancy_regex_desugar.specs.CorePatterns.{CorePattern, fail}
 use Rattle.fancy_regex_desugar.specs.Delegates.{tail_bound}
 use Rattle.fancy_regex_desugar.specs.Shapes.{StepsBackOnlyFirst}
@@ -20,51 +17,20 @@ use Rattle.fancy_regex_program.specs.Ops.{Op, Place}
 use Rattle.fancy_regex_program.specs.Machine.{unset, RunParameters, anchored_by, open_calls}
 use Rattle.fancy_regex_program.specs.Shapes.{IsWritable}
 use Rattle.fancy_regex_program.specs.Code.{Layout, slots_with, Code, opening, closing}
-use Rattle.fancy_regex_program.specs.Layouts.{body_with_calls, body_code, IsKept}
+use Rattle.fancy_regex_program.specs.Layouts.{body_pattern, body_code, IsKept}
 use Rattle.fancy_regex_program_laws.specs.ProgramLaws.{first_group_number, RunRequirements}
 use Rattle.fancy_regex_program_laws.specs.KeptLaws.{KeptProgramsAnswerSearches}
 use Rattle.fancy_regex_program_laws.proofs.Denote.{ending}
 use Rattle.fancy_regex_program_laws.proofs.Runs.{Keep, Ready, eq_self, Does}
 use Rattle.fancy_regex_program_laws.proofs.ProgramParts.{HasAt, has_front, has_back, has_all}
 use Rattle.fancy_regex_program_laws.proofs.Emitted.{closed_code, CallsDo, DoesAtCall, CallDoes, runs_closed}
-use Rattle.fancy_regex_program_laws.proofs.CallSlots.{calls_of, one_call_more, no_call_more, same_or_not, in_main, own_region, IsRegion, keep_in}
+use Rattle.fancy_regex_program_laws.proofs.CallSlots.{in_main, own_region, IsRegion, keep_in}
 use Rattle.fancy_regex_program_laws.proofs.CallSteps.{does_no_call, does_open_call}
-use Rattle.fancy_regex_program_laws.proofs.OpenCalls.{full_calls}
+use Rattle.fancy_regex_program.proofs.OpenCalls.{calls_of, one_call_more, no_call_more, same_or_not, full_is, free_is, target_inside, AreOpen, none_open, one_more_open, none_left}
+use Rattle.fancy_regex_program.proofs.WrittenOut.{AreAbove, NoneIsOut, none_is_above, one_more_above, lower_calls, calls_lower, of_lower}
 use Rattle.fancy_regex_program.proofs.WrittenParts.{PartByPart, of_tree, of_whole}
 use Rattle.fancy_regex_program.proofs.SameCode.{SameCode, same_closed, same_slots, same_body}
 use Rattle.fancy_regex_program_laws.proofs.WholeProgram.{IsMade, first_apart, made_answers, asked_anchored, length_unset}
-
--- The calls that are open around a part: each is of a group, and none is open too often.
-record AreOpen (n : ℕ) (opened : List ℕ) : Type 0 where
-  inside : Each (λ j. j < n) opened
-  few : (k : ℕ) → calls_of k opened ≤ max_open_calls_per_group
-
-none_open : (n : ℕ) → AreOpen n []
-none_open n = record { inside = tt; few = λ k. omega arith }
-
-one_more_open : (n k : ℕ) (opened : List ℕ) → AreOpen n opened → k < n → calls_of k opened < max_open_calls_per_group → AreOpen n (k ∷ opened)
-one_more_open n k opened h lt less = record {
-  inside = (lt, h.inside);
-  few = λ j.
-      ⊎_elim (λ (same : j ≡ k). subst (λ i. calls_of i (k ∷ opened) ≤ max_open_calls_per_group) (sym same) (omega (arith, one_call_more k opened, less)))
-      (λ (ne : j ≡ k → ⊥). (let few = h.few j in omega (arith, no_call_more j k opened ne, few))) (same_or_not j k);
-}
-
-target_inside : (groups : List Tree) (k : ℕ) (t : Tree) → target groups k ≡ Some t → k < length groups
-target_inside groups k t e =
-    ⊎_elim (λ (lt : k < length groups). lt) (λ (ge : length groups ≤ k). absurd (none-some t (sym (slice_get_past groups k ge) ∙ e))) (cases_lt k (length groups))
-
-le_is : (a b : ℕ) → nat_le a b ≡ true → a ≤ b
-le_is a b h = grind (arith, nat_tests)
-
-le_no_is : (a b : ℕ) → nat_le a b ≡ false → b < a
-le_no_is a b h = grind (arith, nat_tests)
-
-full_is : (opened : List ℕ) (k : ℕ) → is_at_call_limit opened k ≡ true → max_open_calls_per_group ≤ calls_of k opened
-full_is opened k e = le_is max_open_calls_per_group (calls_of k opened) e
-
-free_is : (opened : List ℕ) (k : ℕ) → is_at_call_limit opened k ≡ false → calls_of k opened < max_open_calls_per_group
-free_is opened k e = le_no_is max_open_calls_per_group (calls_of k opened) e
 
 -- where a piece of a program stands
 stands_at : (code before piece after : List Op) (n : ℕ) → code ≡ before ++ (piece ++ after) → length before ≡ n → HasAt code n piece
@@ -140,20 +106,31 @@ module _ (r : RunParameters) (whole anchored : Bool) (count : ℕ) (utf8 : IsUtf
       let ne : i ≡ k → ⊥ = λ e. none-some c (sym none ∙ ap layout (sym e) ∙ is) in
       no_call_more i k shown ne ∙ h i c is
 
+  -- Inside of these calls this one may be: where its group is written out, those that are written out are of higher ranks, and else
+  -- none of them is.
+  abbrev MayStand : Bool → ℕ → List ℕ → Type 0
+  MayStand true k shown = AreAbove groups layout kept.is_written_out kept.written_out (kept.written_out.rank k) shown
+  MayStand false k shown = NoneIsOut groups layout kept.is_written_out kept.written_out shown
+
+  -- where none is written out, each call may be
+  all_may : (k : ℕ) (shown : List ℕ) (b : Bool) → NoneIsOut groups layout kept.is_written_out kept.written_out shown → MayStand b k shown
+  all_may k shown true none = none_is_above groups layout kept.is_written_out kept.written_out (kept.written_out.rank k) shown none
+  all_may k shown false none = none
+
   -- Where fewer calls of the group are open, its body is run, which stands where the layout says.
   in_body : (m : ℕ) (shown opened : List ℕ) (lo hi : ℕ) (region : Region opened lo hi) (k : ℕ) (c : Place) (is : layout k ≡ Some c) (few : calls_of k opened < c.most)
-      (t : Tree) → target groups k ≡ Some t →
+      (t : Tree) → target groups k ≡ Some t → AreOpen (length groups) shown m → NoneIsOut groups layout kept.is_written_out kept.written_out shown →
       Do (keeps (k ∷ opened) c.first (c.first + c.own) (own_region layout (2 * count) from kept.bodies_end slots kept.apart over opened k (calls_of k opened) c is refl few))
       (written groups (written_call groups m shown) (k + 1) t).front →
       CallDoes code r whole count (keeps opened lo hi region) utf8 small some layout first (first_apart whole) c (written groups (written_call groups m shown) (k + 1) t).front
-  in_body m shown opened lo hi region k c is few t is_target inner pc slot free ok placed here =
+  in_body m shown opened lo hi region k c is few t is_target around none inner pc slot free ok placed here =
       let body = kept.each k c is in
       let inside = (written groups (written_call groups m shown) (k + 1) t).front in
-      let plain = body_with_calls groups k body.tree in
+      let plain = body_pattern groups k body.tree in
       let same_tree : body.tree ≡ t = same_Some body.tree t (sym body.is_target ∙ is_target) in
       let same : SameCode r.setting.has_member r.setting.fold whole layout plain inside =
       subst (λ u. SameCode r.setting.has_member r.setting.fold whole layout plain (written groups (written_call groups m shown) (k + 1) u).front) same_tree
-      (same_body r.setting.has_member r.setting.fold whole layout groups m shown (k + 1) body.tree body.calls) in
+      (same_body r.setting.has_member r.setting.fold whole layout groups kept.is_written_out kept.written_out m shown around none (k + 1) body.tree body.calls) in
       let ops = closed_code r.setting.has_member r.setting.fold whole layout inside c.start c.first in
       let all : HasAt code c.start (closed_code r.setting.has_member r.setting.fold whole layout plain c.start c.first ++ op.return c ∷ []) =
       stands_at code body.before (body_code r.setting.has_member r.setting.fold whole layout c plain) body.after c.start body.stands body.start in
@@ -171,50 +148,76 @@ module _ (r : RunParameters) (whole anchored : Bool) (count : ℕ) (utf8 : IsUtf
 
   -- at each call, where so many more may be opened
   abbrev CallsLeft : ℕ → Type 0
-  CallsLeft m = (shown opened : List ℕ) → AreOpen (length groups) shown → max_open_calls_per_group * length groups ≤ m + length shown → Agree shown opened →
-      (lo hi : ℕ) (region : Region opened lo hi) (k : ℕ) → Do (keeps opened lo hi region) (written_call groups m shown k)
+  CallsLeft m = (shown opened : List ℕ) → AreOpen (length groups) shown m → Agree shown opened → (lo hi : ℕ) (region : Region opened lo hi) (k : ℕ) →
+      MayStand (kept.is_written_out k) k shown → Do (keeps opened lo hi region) (written_call groups m shown k)
 
   -- where none may be opened any more
-  none_left : (shown opened : List ℕ) → AreOpen (length groups) shown → max_open_calls_per_group * length groups ≤ length shown → Agree shown opened →
-      (lo hi : ℕ) (region : Region opened lo hi) (k : ℕ) (o : Option Place) → layout k ≡ o →
+  no_more : (shown opened : List ℕ) → AreOpen (length groups) shown 0 → Agree shown opened → (lo hi : ℕ) (region : Region opened lo hi) (k : ℕ) (o : Option Place) → layout k ≡ o →
       DoesAtCall code r whole count (keeps opened lo hi region) utf8 small some layout first (first_apart whole) o fail (Do (keeps opened lo hi region) fail)
-  none_left shown opened around enough agree lo hi region k None is = tt
-  none_left shown opened around enough agree lo hi region k (Some c) is =
+  no_more shown opened around agree lo hi region k None is = tt
+  no_more shown opened around agree lo hi region k (Some c) is =
       let body = kept.each k c is in
-      let full = full_calls (length groups) shown around.inside around.few enough k (target_inside groups k body.tree body.is_target) in
+      let full = none_left (length groups) shown around k (target_inside groups k body.tree body.is_target) in
       at_limit opened lo hi region k (omega (arith, full, agree k c is)) (Some c) is
 
+  -- a group whose calls stay is not written out
+  not_out : (k : ℕ) (c : Place) → layout k ≡ Some c → (b : Bool) → kept.is_written_out k ≡ b → b ≡ false
+  not_out k c is true out = absurd (none-some c (sym (kept.written_out.none k out) ∙ is))
+  not_out k c is false out = refl
+
+  -- the parts of a body, or of what is written out
+  parts_of : (keep : Keep count) (call : ℕ → CorePattern) (k : ℕ) (t : Tree) → ((j : ℕ) → Do keep (call j)) → Do keep (written groups call (k + 1) t).front
+  parts_of keep call k t calls = (of_tree (λ a b. Do keep a) (do_parts keep) groups call call calls (k + 1) t).front
+
+  -- A call that is written out: the body of its group stands there.
+  written_here : (m : ℕ) → CallsLeft m → (shown opened : List ℕ) (k : ℕ) → AreOpen (length groups) (k ∷ shown) m → Agree (k ∷ shown) opened → (lo hi : ℕ) (region : Region opened lo hi)
+      (out : Bool) → kept.is_written_out k ≡ out → MayStand out k shown → (t : Tree) → target groups k ≡ Some t →
+      Do (keeps opened lo hi region) (written groups (written_call groups m (k ∷ shown)) (k + 1) t).front
+  written_here m later shown opened k around agree lo hi region true out above t at =
+      let call = written_call groups m (k ∷ shown) in
+      let lower = lower_calls groups layout kept.is_written_out kept.written_out k call in
+      let fits : (j : ℕ) → Do (keeps opened lo hi region) (lower j) =
+      of_lower groups layout kept.is_written_out kept.written_out (λ q. Do (keeps opened lo hi region) q) tt k call
+      (λ j out_j less. later (k ∷ shown) opened around agree lo hi region j
+      (subst (λ c. MayStand c j (k ∷ shown)) (sym out_j) (one_more_above groups layout kept.is_written_out kept.written_out (kept.written_out.rank j) k shown less above))) in
+      subst (λ q. Do (keeps opened lo hi region) q) (sym (calls_lower groups layout kept.is_written_out kept.written_out k t out at call))
+      (parts_of (keeps opened lo hi region) lower k t fits)
+  written_here m later shown opened k around agree lo hi region false out none t at =
+      parts_of (keeps opened lo hi region) (written_call groups m (k ∷ shown)) k t
+      (λ j. later (k ∷ shown) opened around agree lo hi region j (all_may j (k ∷ shown) (kept.is_written_out j) (out, none)))
+
   -- one call more
-  call_left : (m : ℕ) → CallsLeft m → (shown opened : List ℕ) → AreOpen (length groups) shown → max_open_calls_per_group * length groups ≤ suc m + length shown → Agree shown opened →
-      (lo hi : ℕ) (region : Region opened lo hi) (k : ℕ) (o : Option Place) → layout k ≡ o → (b : Bool) → is_at_call_limit shown k ≡ b → (u : Option Tree) → target groups k ≡ u →
+  call_left : (m : ℕ) → CallsLeft m → (shown opened : List ℕ) → AreOpen (length groups) shown (suc m) → Agree shown opened → (lo hi : ℕ) (region : Region opened lo hi) (k : ℕ) →
+      (out : Bool) → kept.is_written_out k ≡ out → MayStand out k shown → (o : Option Place) → layout k ≡ o → (b : Bool) → is_at_call_limit shown k ≡ b → (u : Option Tree) → target groups k ≡ u →
       DoesAtCall code r whole count (keeps opened lo hi region) utf8 small some layout first (first_apart whole) o
       (cond b fail (pat_for (λ t. (written groups (written_call groups m (k ∷ shown)) (k + 1) t).front) u))
       (Do (keeps opened lo hi region) (cond b fail (pat_for (λ t. (written groups (written_call groups m (k ∷ shown)) (k + 1) t).front) u)))
-  call_left m later shown opened around enough agree lo hi region k None is true full u e = tt
-  call_left m later shown opened around enough agree lo hi region k None is false less None e = tt
-  call_left m later shown opened around enough agree lo hi region k None is false less (Some t) e =
-      (of_tree (λ a b. Do (keeps opened lo hi region) a) (do_parts (keeps opened lo hi region)) groups (written_call groups m (k ∷ shown)) (written_call groups m (k ∷ shown))
-      (later (k ∷ shown) opened (one_more_open (length groups) k shown around (target_inside groups k t e) (free_is shown k less)) (omega (arith, enough))
-      (agree_shown shown opened k agree is) lo hi region) (k + 1) t).front
-  call_left m later shown opened around enough agree lo hi region k (Some c) is true full u e =
+  call_left m later shown opened around agree lo hi region k out is_out may None is true full u e = tt
+  call_left m later shown opened around agree lo hi region k out is_out may None is false less None e = tt
+  call_left m later shown opened around agree lo hi region k out is_out may None is false less (Some t) e =
+      written_here m later shown opened k (one_more_open (length groups) k shown m around (target_inside groups k t e) (free_is shown k less)) (agree_shown shown opened k agree is) lo hi region
+      out is_out may t e
+  call_left m later shown opened around agree lo hi region k out is_out may (Some c) is true full u e =
       at_limit opened lo hi region k (omega (arith, full_is shown k full, agree k c is)) (Some c) is
-  call_left m later shown opened around enough agree lo hi region k (Some c) is false less None e =
+  call_left m later shown opened around agree lo hi region k out is_out may (Some c) is false less None e =
       absurd (none-some (kept.each k c is).tree (sym e ∙ (kept.each k c is).is_target))
-  call_left m later shown opened around enough agree lo hi region k (Some c) is false less (Some t) e =
+  call_left m later shown opened around agree lo hi region k out is_out may (Some c) is false less (Some t) e =
       let most = (kept.apart.placed k c is).most_is in
       let few : calls_of k opened < c.most = omega (arith, free_is shown k less, agree k c is, most) in
       let region' = own_region layout (2 * count) from kept.bodies_end slots kept.apart over opened k (calls_of k opened) c is refl few in
       let keep' = keeps (k ∷ opened) c.first (c.first + c.own) region' in
-      in_body m (k ∷ shown) opened lo hi region k c is few t e
-      (of_tree (λ a b. Do keep' a) (do_parts keep') groups (written_call groups m (k ∷ shown)) (written_call groups m (k ∷ shown))
-      (later (k ∷ shown) (k ∷ opened) (one_more_open (length groups) k shown around (target_inside groups k t e) (free_is shown k less)) (omega (arith, enough))
-      (agree_more shown opened k agree) c.first (c.first + c.own) region') (k + 1) t).front
+      let stays : out ≡ false = not_out k c is out is_out in
+      let none : NoneIsOut groups layout kept.is_written_out kept.written_out (k ∷ shown) = (is_out ∙ stays, subst (λ d. MayStand d k shown) stays may) in
+      let open_now = one_more_open (length groups) k shown m around (target_inside groups k t e) (free_is shown k less) in
+      in_body m (k ∷ shown) opened lo hi region k c is few t e open_now none
+      (parts_of keep' (written_call groups m (k ∷ shown)) k t
+      (λ j. later (k ∷ shown) (k ∷ opened) open_now (agree_more shown opened k agree) c.first (c.first + c.own) region' j (all_may j (k ∷ shown) (kept.is_written_out j) none)))
 
   calls_do : (m : ℕ) → CallsLeft m
   unfolding written_call
-  calls_do zero = λ shown opened around enough agree lo hi region k. none_left shown opened around (omega (arith, enough)) agree lo hi region k (layout k) refl
-  calls_do (suc m) = λ shown opened around enough agree lo hi region k.
-      call_left m (calls_do m) shown opened around enough agree lo hi region k (layout k) refl (is_at_call_limit shown k) refl (target groups k) refl
+  calls_do zero = λ shown opened around agree lo hi region k may. no_more shown opened around agree lo hi region k (layout k) refl
+  calls_do (suc m) = λ shown opened around agree lo hi region k may.
+      call_left m (calls_do m) shown opened around agree lo hi region k (kept.is_written_out k) refl may (layout k) refl (is_at_call_limit shown k) refl (target groups k) refl
 
   -- the main program
   main_region : Region [] (2 * count) from
@@ -263,8 +266,9 @@ pattern_made r pattern whole anchored count layout code slots asked kept =
     kept_made r whole anchored count asked.utf8 asked.small asked.groups pattern.groups p layout code slots kept asked.writable asked.placed
     (of_whole (λ a b. Do r whole anchored count asked.utf8 asked.small asked.groups pattern.groups p layout code slots kept keep a)
     (do_parts r whole anchored count asked.utf8 asked.small asked.groups pattern.groups p layout code slots kept keep) pattern.groups call call
-    (calls_do r whole anchored count asked.utf8 asked.small asked.groups pattern.groups p layout code slots kept (max_open_calls pattern.groups) [] []
-    (none_open (length pattern.groups)) (omega arith) (λ k c is. refl) (2 * count) (2 * count + slots_with layout p) region) pattern.first_group pattern.tree)
+    (λ k. calls_do r whole anchored count asked.utf8 asked.small asked.groups pattern.groups p layout code slots kept (max_open_calls pattern.groups) [] []
+    (none_open (length pattern.groups)) (λ k c is. refl) (2 * count) (2 * count + slots_with layout p) region k
+    (all_may r whole anchored count asked.utf8 asked.small asked.groups pattern.groups p layout code slots kept k [] (kept.is_written_out k) tt)) pattern.first_group pattern.tree)
 
 pub kept_programs_answer : KeptProgramsAnswerSearches
 kept_programs_answer r pattern whole anchored count layout code slots asked kept =

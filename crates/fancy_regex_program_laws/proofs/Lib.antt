@@ -20,7 +20,6 @@ mod SearchEndings
 mod WholeProgram
 mod CallSlots
 mod CallSteps
-mod OpenCalls
 mod KeptPrograms
 mod LongerRuns
 mod LayoutsAlike

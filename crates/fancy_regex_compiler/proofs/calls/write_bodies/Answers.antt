@@ -1,4 +1,4 @@
-use Rattle.std.proofs.Common.{◌≡◌, ◌<◌, length, refl, arith}
+use Rattle.std.proofs.Common.{◌≡◌, ◌<◌, length, refl, ◌∙◌, arith}
 use Rattle.std.specs.Prelude.{slice_get, Some}
 use Rattle.std.proofs.lemmas.List.{length-map}
 use Rattle.std.proofs.lemmas.Option.{slice_get_read}
@@ -48,6 +48,7 @@ loop-done-preserved c =
     let inv = c.loop-done.invariant in
     record {
       bodies = h.bodies (draft_of c.args.emitter.now.body).ops c.args.slot inv.bodies;
+      opened = h.needs.opened ∙ inv.opened;
       notes = needs_now context start needs c.requires.of_groups inv.notes new c.loop-done.done need at h.needs.notes;
       met = met_now context start needs c.requires.of_groups inv.notes new c.loop-done.done need at h.needs.notes c.loop-done.bodies c.meet_need.new.bodies inv.met h.met
           h.needs.allowed;

@@ -1,4 +1,4 @@
-use Rattle.std.proofs.Common.{◌≡◌, ℕ, ◌-◌, ◌<◌, List, Some}
+use Rattle.std.proofs.Common.{◌≡◌, ℕ, ◌-◌, ◌<◌, List, [], Some}
 use Rattle.std.specs.Prelude.{slice_get}
 use Rattle.std.specs.List.{Contains}
 use Rattle.fancy_regex_compiler.specs.Kept.{HasBodies, IsMetUnder, IsNeededBody}
@@ -13,6 +13,7 @@ invariant-loop-done l =
     let start = l.fn.emitter.needs.items in
     record {
       bodies : HasBodies l.context (draft_of l.fn.emitter.body).ops l.slot (draft_of l.emitter.body) l.bodies;
+      opened : l.emitter.opened.items ≡ [];
       notes : Notes (infos_of l.context) start l.emitter.needs.items (λ tree_context. AreStanding tree_context (infos_of l.context) start);
       met : (all : List Need) → AreAmong l.emitter.needs.items all → (i : ℕ) (n : Need) → i < l.done → slice_get l.emitter.needs.items i ≡ Some n →
           IsMetUnder l.context l.bodies all n;

@@ -18,7 +18,7 @@ returns-clause-kept c =
     let all = c.write_bodies.new.emitter.needs.items in
     let table = table_of c.in_ok-places.places.of_groups.items in
     keeps_calls context x c.args.anchored c.in_ok-slot.slot (draft_of c.write_main.new.emitter.body) (draft_of c.write_bodies.new.emitter.body) (draft_of c.push_insn.new.self)
-    c.in_ok-bodies.bodies all table c.in_ok-places.places.end c.in_ok-insns.insns.items c.requires.some c.requires.drafted
+    c.in_ok-bodies.bodies all table c.in_ok-places.places.end c.in_ok-insns.insns.items c.requires.inlined c.requires.some c.requires.drafted
     c.in_ok-slot.ensures.wrote wrote.bodies c.in_ok-push_insn.ensures.draft wrote.met wrote.needed (c.in_ok-slot.ensures.allowed all wrote.among)
     (c.in_ok-places.ensures.places c.in_ok-slot.slot wrote.bodies.stacked)
     (c.in_ok-insns.ensures ∙ ap (λ places. map (resolved (table_of places)) (ops_of c.into_insns.result.items)) c.deref.ensures.value
@@ -32,7 +32,7 @@ returns-clause-allowed c =
     let all = c.write_bodies.new.emitter.needs.items in
     let table = table_of c.in_ok-places.places.of_groups.items in
     kept_allowed context x c.args.anchored c.in_ok-slot.slot (draft_of c.write_main.new.emitter.body) (draft_of c.write_bodies.new.emitter.body) (draft_of c.push_insn.new.self)
-    c.in_ok-bodies.bodies all table c.in_ok-places.places.end c.in_ok-insns.insns.items c.requires.some c.requires.drafted
+    c.in_ok-bodies.bodies all table c.in_ok-places.places.end c.in_ok-insns.insns.items c.requires.inlined c.requires.some c.requires.drafted
     c.in_ok-slot.ensures.wrote wrote.bodies c.in_ok-push_insn.ensures.draft wrote.met wrote.needed (c.in_ok-slot.ensures.allowed all wrote.among)
     (c.in_ok-places.ensures.places c.in_ok-slot.slot wrote.bodies.stacked)
     (c.in_ok-insns.ensures ∙ ap (λ places. map (resolved (table_of places)) (ops_of c.into_insns.result.items)) c.deref.ensures.value

@@ -40,5 +40,5 @@ returns-then-not-is_valid_program-clause-refused c = λ writable.
     let valid : IsValidProgram (ops_of program.0.items) program.1 =
     written_is_valid c.args.options.now.max_prog_size c.args.most c.args.options.now.unicode c.args.whole c.args.options.now.anchored (map info_at c.args.groups.now.items) (info_of c.args.info.now)
     program.0.items program.1 c.in-Ok.ensures.wrote c.in-Ok.ensures.allowed writable in
-    let complete = rw c.deref.ensures.value at c.is_valid_program.ensures.complete in
+    let complete = rw c.deref-3.ensures.value at c.is_valid_program.ensures.complete in
     λ tree_context analyzed part. true≢false (sym (complete valid) ∙ c.if-not-is_valid_program.true)

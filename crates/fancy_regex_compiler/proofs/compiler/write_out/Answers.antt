@@ -1,7 +1,7 @@
 use Rattle.std.proofs.Common.{arith, ◌≡◌, true, refl, ap, ◌∙◌}
 use Rattle.fancy_regex_desugar.specs.ProgramSizes.{room}
 use Rattle.fancy_regex_info.specs.Infos.{info_of}
-use Rattle.fancy_regex_compiler.specs.Extents.{room_with}
+use Rattle.fancy_regex_compiler.specs.Rooms.{room_with}
 use Rattle.fancy_regex_compiler.specs.Known.{pat_with}
 use Rattle.fancy_regex_compiler.specs.Writing.{Draft, infos_of, layout_of}
 use Rattle.std.specs.Prelude.{length}

@@ -8,8 +8,8 @@ use Rattle.fancy_regex_compiler.proofs.OutcomeLemmas.{emits_as}
 use Rattle.fancy_regex_compiler.proofs.RowLemmas.{call_shape}
 use Rattle.fancy_regex_compiler.proofs.emit.emit_call.Goals as goal
 
-pub returns-in-Some : goal.returns-in-Some
-returns-in-Some c =
+pub returns-in-Some-Some : goal.returns-in-Some-Some
+returns-in-Some-Some c =
     let groups = infos_of c.args.context.now in
     let scope = c.args.scope in
     let k = c.args.target in

@@ -2,7 +2,8 @@ use Rattle.std.proofs.Common.{ap, ◌∙◌, arith}
 use Rattle.fancy_regex_program.specs.Ops as op
 use Rattle.fancy_regex_program.specs.Ops.{place_of}
 use Rattle.fancy_regex_compiler.specs.Tasks.{tasks_work, listed}
-use Rattle.fancy_regex_compiler.specs.Writing.{added, draft_of, draft_place, infos_of, layout_of}
+use Rattle.fancy_regex_compiler.specs.Inlined.{draft_place}
+use Rattle.fancy_regex_compiler.specs.Writing.{added, draft_of, infos_of, layout_of}
 use Rattle.fancy_regex_compiler.specs.declared.task.Step.{Step}
 use Rattle.fancy_regex_compiler.proofs.BranchSteps.{leads_kept_call}
 use Rattle.fancy_regex_compiler.proofs.OutcomeLemmas.{emits_want}

@@ -3,7 +3,7 @@ use Rattle.std.specs.Prelude.{vec_len}
 use Rattle.std.proofs.lemmas.Option.{slice_get-map, slice_get_read}
 use Rattle.fancy_regex_meaning.specs.Ways.{is_at_call_limit}
 use Rattle.fancy_regex_desugar.specs.CorePatterns.{fail, called}
-use Rattle.fancy_regex_compiler.specs.CalledTexts.{IsText, IsFree}
+use Rattle.fancy_regex_compiler.specs.CalledTexts.{IsFree}
 use Rattle.fancy_regex_compiler.specs.Known.{info_call}
 use Rattle.fancy_regex_compiler.specs.Refusals.{TreeContext, IsExpandedTarget}
 use Rattle.fancy_regex_compiler.specs.Tasks.{LeadsTo, room_of, tasks_work, listed}
@@ -12,55 +12,46 @@ use Rattle.fancy_regex_compiler.specs.declared.emitter.Emitter.{Emitter}
 use Rattle.fancy_regex_compiler.specs.declared.emitter.Scope.{Scope}
 use Rattle.fancy_regex_compiler.specs.declared.task.Step.{Step}
 use Rattle.fancy_regex_compiler.proofs.BranchSteps.{leads_call, leads_no_call}
-use Rattle.fancy_regex_compiler.proofs.CalledTextLemmas.{wrote_silent, allowed_silent, text_fits}
-use Rattle.fancy_regex_compiler.proofs.NeedLemmas.{none_noted, none_stays}
+use Rattle.fancy_regex_compiler.proofs.InlinedContext.{no_room}
+use Rattle.fancy_regex_compiler.proofs.NeedLemmas.{none_noted}
 use Rattle.fancy_regex_compiler.proofs.OutcomeLemmas.{emits_want}
 use Rattle.fancy_regex_compiler.proofs.RoomLemmas.{room_fail, room_called}
 use Rattle.fancy_regex_compiler.proofs.RowLemmas.{call_full, call_none}
+use Rattle.fancy_regex_compiler.proofs.SilentLemmas.{wrote_silent, allowed_silent}
 use Rattle.fancy_regex_compiler.proofs.StepLemmas.{leads_nothing, with_node}
 use Rattle.fancy_regex_compiler.proofs.WorkLemmas.{body_less}
 use Rattle.fancy_regex_compiler.proofs.emit.emit_written_call.Goals as goal
 use Rattle.fancy_regex_compiler.proofs.emit.emit_written_call.Goals.{then-is_at_call_limit-via-then-is_at_call_limit, then-is_at_call_limit-via-else-is_at_call_limit+then-scope-eq0}
 
--- what is known of a call that writes nothing but characters
-pub returns-then-characters-eq0 : goal.returns-then-characters-eq0
-returns-then-characters-eq0 c =
+-- a call that writes nothing
+pub returns-then-writes_nothing : goal.returns-then-writes_nothing
+returns-then-writes_nothing c =
     let context = c.args.context.now in
     let groups = infos_of context in
     let old = c.args.emitter.now in
     let scope = c.args.scope in
     let k = c.args.target in
-    let n = c.in-Some.characters in
     let p = info_call groups scope.calls_left old.opened.items k in
-    let known = c.in-Some.ensures in
-    let text : IsText n p = context.are_texts k n scope.calls_left old.opened.items known.target known.left
-    (subst (IsFree context.texts.now.lengths.items n) c.deref.ensures.value known.free) in
-    let silent = text.silent c.if-characters-eq0.true in
+    let h = c.writes_nothing.ensures in
+    let yes = c.if-writes_nothing.true in
+    let silent = no_room context scope.calls_left old.opened.items k (h.room yes) (h.left yes)
+    (subst (IsFree context.inlined.now.rooms.items 0) c.deref.ensures.value (h.free yes)) in
     let S = λ (tree_context : TreeContext). IsExpandedTarget tree_context scope.may_keep scope.may_be_absent groups k in
     record {
       cap = refl;
       leads =
           leads_nothing context old old c.args.slot scope.may_keep p S c.leads_to.result c.leads_to.ensures
-          (wrote_silent (layout_of context) context.unicode context.whole old c.args.slot p c.requires.written silent) (omega arith)
-          (λ all among. allowed_silent (layout_of context) all context.unicode scope.may_keep p c.requires.written silent) (none_noted groups old.needs.items S);
+          (wrote_silent (layout_of context) context.unicode context.whole old c.args.slot p silent) (omega arith)
+          (λ all among. allowed_silent (layout_of context) all context.unicode scope.may_keep p silent) (none_noted groups old.needs.items S);
       work = let this = ap (λ (s : Step). tasks_work groups (listed s.tasks)) c.leads_to.ensures in omega (arith, this);
       full = tt;
       refused = tt;
     }
 
-pub returns-in_err-check_room : goal.returns-in_err-check_room
-returns-in_err-check_room c =
-    let context = c.args.context.now in
-    let old = c.args.emitter.now in
-    let k = c.args.target in
-    let n = c.in-Some.characters in
-    let p = info_call (infos_of context) c.args.scope.calls_left old.opened.items k in
-    let known = c.in-Some.ensures in
-    let text : IsText n p = context.are_texts k n c.args.scope.calls_left old.opened.items known.target known.left
-    (subst (IsFree context.texts.now.lengths.items n) c.deref.ensures.value known.free) in
-    let e = c.in_err-check_room in
-    emits_want c.from_residual.result e.field-0.0 c.from_residual.ensures.1 refl
-    (λ too. let lt = e.ensures.full too in omega (arith, lt, text_fits (layout_of context) n p c.requires.written text)) e.ensures.refused
+pub returns-in_err-check_text : goal.returns-in_err-check_text
+returns-in_err-check_text c =
+    let e = c.in_err-check_text in
+    emits_want c.from_residual.result e.field-0.0 c.from_residual.ensures.1 refl e.ensures.full e.ensures.refused
 
 pub returns-then-is_at_call_limit : goal.returns-then-is_at_call_limit
 returns-then-is_at_call_limit c =
@@ -77,7 +68,7 @@ returns-then-is_at_call_limit c =
       cap = c.in_ok-flush_and_push.ensures.cap;
       leads =
           leads_no_call context c.args.emitter.now c.flush_and_push.new.self c.args.slot c.args.scope.may_keep k _
-          (λ tree_context. IsExpandedTarget tree_context c.args.scope.may_keep c.args.scope.may_be_absent groups k) c.leads_to-then-is_at_call_limit.result (none_stays (layout_of context) c.requires.written) fails c.leads_to-then-is_at_call_limit.ensures
+          (λ tree_context. IsExpandedTarget tree_context c.args.scope.may_keep c.args.scope.may_be_absent groups k) c.leads_to-then-is_at_call_limit.result c.requires.inlined fails c.leads_to-then-is_at_call_limit.ensures
           c.in_ok-flush_and_push.ensures.draft c.in_ok-flush_and_push.ensures.long;
       work = let this = ap (λ (s : Step). tasks_work groups (listed s.tasks)) c.leads_to-then-is_at_call_limit.ensures in omega (arith, this);
       full = tt;
@@ -100,7 +91,7 @@ returns-in_err-flush_and_push c =
       arith,
       lt,
       ap (room_of c.args.context.now) fails,
-      room_called (layout_of c.args.context.now) k fail (none_stays (layout_of c.args.context.now) c.requires.written k),
+      room_called (layout_of c.args.context.now) k fail c.requires.inlined,
       room_fail (layout_of c.args.context.now),
     )) e.ensures.refused
 
@@ -123,7 +114,7 @@ returns c = record {
       subst (λ r. LeadsTo context p c.args.scope.may_keep
       (λ (tree_context : TreeContext). IsExpandedTarget tree_context c.args.scope.may_keep c.args.scope.may_be_absent (infos_of context) k) old new c.args.slot r)
       (sym (with_node _ _ _ _ _ c.leads_to-2.ensures c.node_task.ensures))
-      (leads_call context old new c.args.slot (c.args.scope.calls_left - 1) k c.args.scope inner x (none_stays (layout_of context) c.requires.written) more refl refl refl at free refl c.in_ok-push.ensures.items refl);
+      (leads_call context old new c.args.slot (c.args.scope.calls_left - 1) k c.args.scope inner x c.requires.inlined more refl refl refl at free refl c.in_ok-push.ensures.items refl);
   work =
       let context = c.args.context.now in
       let groups = context.groups.now.items in

@@ -4,7 +4,7 @@ use Rattle.fancy_regex_class.specs.Classes.{in_class, folded}
 use Rattle.fancy_regex_info.specs.Infos.{info_of}
 use Rattle.fancy_regex_program.specs.Code.{slots_with}
 use Rattle.fancy_regex_program.specs.Layouts.{main_code}
-use Rattle.fancy_regex_compiler.specs.Extents.{room_with}
+use Rattle.fancy_regex_compiler.specs.Rooms.{room_with}
 use Rattle.fancy_regex_compiler.specs.Known.{most_calls_in}
 use Rattle.fancy_regex_compiler.specs.Tasks.{IsLetThrough}
 use Rattle.fancy_regex_compiler.specs.Writing.{draft_of, info_at, infos_of, layout_of}
@@ -33,6 +33,9 @@ returns-clause-wrote c =
       draft_is = same_draft (written ∙ ap (main_code (in_class u) (folded u) context.whole layout c.args.anchored count) p) c.in_ok-close.ensures.text;
       slots_are = wrote.slots ∙ ap₂ (λ s q. s + slots_with layout q) slot p;
     }
+
+pub returns-clause-opened : goal.returns-clause-opened
+returns-clause-opened c = c.in_ok-slots.ensures.wrote.opened ∙ c.requires.opened
 
 pub returns-clause-allowed : goal.returns-clause-allowed
 returns-clause-allowed c = λ all among.
