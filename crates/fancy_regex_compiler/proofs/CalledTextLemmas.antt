@@ -10,7 +10,7 @@ use Rattle.fancy_regex_tree.specs.declared.expr.Expr.TheVariants as view
 use Rattle.fancy_regex_tree.specs.Tree as tree
 use Rattle.fancy_regex_tree.specs.Tree.{tree_of}
 use Rattle.fancy_regex_meaning.specs.Ways.{is_at_call_limit, max_open_calls_per_group}
-use Rattle.fancy_regex_desugar.specs.CorePatterns.{CorePattern, literal, nothing, read, cat, called}
+use Rattle.fancy_regex_desugar.specs.CorePatterns.{CorePattern, literal, nothing, read, called}
 use Rattle.fancy_regex_desugar.specs.ProgramSizes.{room}
 use Rattle.fancy_regex_desugar.specs.Unfolded.{Written, cat_all, repeated}
 use Rattle.fancy_regex_info.specs.Infos.{InfoTree, info_of}

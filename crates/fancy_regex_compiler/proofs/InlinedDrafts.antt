@@ -1,5 +1,5 @@
 -- Calls that are written out have drafts inside, where calls that stay have.
-use Rattle.std.proofs.Common.{◌≡◌, ℕ, zero, suc, ◌<◌, ◌≤◌, Bool, true, false, ⊎_elim, cond, List, [], Option, Some, None, refl, sym, ap, subst, ◌∙◌, arith}
+use Rattle.std.proofs.Common.{◌≡◌, ℕ, zero, suc, ◌<◌, Bool, true, false, ⊎_elim, cond, List, [], Option, None, refl, sym, ap, subst, ◌∙◌, arith}
 use Rattle.std.specs.Prelude.{nat_lt, is_some}
 use Rattle.std.proofs.lemmas.Bool.Decides.{nat_tests}
 use Rattle.fancy_regex_desugar.specs.CorePatterns.{CorePattern, fail, called}
@@ -10,7 +10,7 @@ use Rattle.fancy_regex_program.specs.Layouts.{IsLaidOut, CallsAreLaidOut}
 use Rattle.fancy_regex_program.proofs.Resolved.{Drafted, drafted_parts, has_drafts_parts, drafted_kept}
 use Rattle.fancy_regex_compiler.specs.Inlined.{is_inlined, AreInlined}
 use Rattle.fancy_regex_compiler.specs.Kept.{first_call, called_pattern}
-use Rattle.fancy_regex_compiler.specs.Known.{info_written, most_calls_in, pat_with}
+use Rattle.fancy_regex_compiler.specs.Known.{most_calls_in, pat_with}
 use Rattle.fancy_regex_compiler.proofs.InfoParts.{of_info, of_info_whole}
 use Rattle.fancy_regex_compiler.proofs.InlinedLemmas.{opens_first}
 use Rattle.fancy_regex_compiler.proofs.RowLemmas.{call_shape}

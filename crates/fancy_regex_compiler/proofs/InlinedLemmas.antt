@@ -1,5 +1,5 @@
 -- Groups whose calls are written out where calls stay calls, and what stands for calls of them.
-use Rattle.std.proofs.Common.{◌≡◌, ℕ, zero, suc, ◌+◌, ◌*◌, ◌-◌, ◌≤◌, ◌<◌, Bool, true, false, cond, List, [], ◌∷◌, ◌++◌, length, set, Option, Some, None, refl, sym, ap, ◌∙◌, subst, arith}
+use Rattle.std.proofs.Common.{◌≡◌, ℕ, zero, suc, ◌+◌, ◌-◌, ◌≤◌, ◌<◌, Bool, true, false, cond, List, [], ◌∷◌, ◌++◌, length, set, Option, Some, None, refl, sym, ap, ◌∙◌, subst, arith}
 use Rattle.std.specs.Prelude.{slice_get, slice_index_or, ◌==◌, is_some}
 use Rattle.std.proofs.lemmas.Bool.{true≢false}
 use Rattle.std.proofs.lemmas.Bool.Decides.{nat_tests}
@@ -11,7 +11,7 @@ use Rattle.fancy_regex_program.specs.Code.{Layout}
 use Rattle.fancy_regex_program.specs.Ops.{Place}
 use Rattle.fancy_regex_compiler.specs.CalledTexts.{IsFree}
 use Rattle.fancy_regex_compiler.specs.Rooms.{room_with}
-use Rattle.fancy_regex_compiler.specs.Inlined.{room_at, is_inlined, HaveRooms, SameCalls, TakesRoom, IsInlined, most_room, AreInlined, AreSilent}
+use Rattle.fancy_regex_compiler.specs.Inlined.{room_at, is_inlined, TakesRoom, IsInlined, most_room, AreInlined, AreSilent}
 use Rattle.fancy_regex_compiler.specs.Known.{info_written, info_call, most_calls_in}
 use Rattle.fancy_regex_compiler.proofs.CalledTextLemmas.{other_open}
 use Rattle.fancy_regex_compiler.proofs.RoomLemmas.{room_called}

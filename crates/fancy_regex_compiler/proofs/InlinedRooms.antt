@@ -1,5 +1,5 @@
 -- The room of nodes whose calls are of groups with a known room.
-use Rattle.std.proofs.Common.{◌≡◌, ℕ, zero, suc, ◌+◌, ◌-◌, ◌≤◌, Bool, true, false, cond, List, [], ◌∷◌, ◌++◌, map, Option, Some, None, IfSome, Box, Vec, Global, refl, sym, ap, ap₂, ◌∙◌, subst, arith}
+use Rattle.std.proofs.Common.{◌≡◌, ℕ, zero, suc, ◌+◌, ◌-◌, ◌≤◌, Bool, true, false, cond, List, [], ◌∷◌, ◌++◌, map, Option, Some, None, IfSome, Box, Vec, Global, refl, sym, ap, ap₂, ◌∙◌, arith}
 use Rattle.std.specs.Prelude.{slice_get, slice_index, is_some}
 use Rattle.std.proofs.lemmas.Bool.{true≢false}
 use Rattle.std.proofs.lemmas.List.{map-append}
@@ -10,15 +10,15 @@ use Rattle.fancy_regex_tree.specs.declared.expr.LookAround.{LookAround}
 use Rattle.fancy_regex_tree.specs.declared.expr.LookAround.TheVariants.{LookAhead, LookAheadNeg, LookBehind, LookBehindNeg}
 use Rattle.fancy_regex_tree.specs.Tree as tree
 use Rattle.fancy_regex_tree.specs.Tree.{Text, Tree, tree_of}
-use Rattle.fancy_regex_desugar.specs.CorePatterns.{CorePattern, any, literal, class, nothing, read, general_newline, check, keep_out, fail, cat, alt, group, ahead, never, atomic, delegate, backref}
+use Rattle.fancy_regex_desugar.specs.CorePatterns.{CorePattern, any, literal, class, nothing, read, general_newline, check, keep_out, cat, group, ahead, never, atomic, delegate, backref}
 use Rattle.fancy_regex_desugar.specs.Delegates.{searched, is_delegated}
-use Rattle.fancy_regex_desugar.specs.Unfolded.{Written, cat_all, alt_all, body_of, first_way_of, repeated, look}
-use Rattle.fancy_regex_info.specs.Infos.{InfoTree, info_of}
+use Rattle.fancy_regex_desugar.specs.Unfolded.{Written, cat_all, alt_all, body_of, first_way_of, repeated}
+use Rattle.fancy_regex_info.specs.Infos.{info_of}
 use Rattle.fancy_regex_info.specs.declared.info.Info.{Info}
 use Rattle.fancy_regex_info.specs.declared.info.Info.TheViews.{out-Info}
 use Rattle.fancy_regex_program.specs.Code.{Layout}
 use Rattle.fancy_regex_compiler.specs.Rooms.{room_with}
-use Rattle.fancy_regex_compiler.specs.Inlined.{room_at, is_inlined, HaveRooms, SameCalls, TakesRoom, node_front, node_fronts, rooms_with, FirstTakesRoom, AllTakeRoom, IsLeafRoom}
+use Rattle.fancy_regex_compiler.specs.Inlined.{room_at, HaveRooms, TakesRoom, node_front, node_fronts, rooms_with, FirstTakesRoom, AllTakeRoom, IsLeafRoom}
 use Rattle.fancy_regex_compiler.specs.Known.{front_of, info_written}
 use Rattle.fancy_regex_compiler.specs.Refusals.{looks_behind}
 use Rattle.fancy_regex_compiler.proofs.CalledTextLemmas.{front_never}

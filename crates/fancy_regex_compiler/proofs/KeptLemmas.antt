@@ -1,12 +1,12 @@
 -- A program whose calls stay, once its bodies are written and its calls lead to them.
-use Rattle.std.proofs.Common.{◌≡◌, ℕ, zero, suc, ◌+◌, ◌*◌, ◌<◌, ◌≤◌, Bool, true, false, true≢false, List, [], ◌∷◌, ◌++◌, length, map, Option, Some, None, refl, sym, ap, subst, ◌∙◌, arith, append_assoc}
+use Rattle.std.proofs.Common.{◌≡◌, ℕ, zero, suc, ◌+◌, ◌*◌, ◌<◌, ◌≤◌, Bool, true, true≢false, List, [], ◌∷◌, ◌++◌, length, map, Option, Some, None, refl, sym, ap, subst, ◌∙◌, arith, append_assoc}
 use Rattle.std.specs.Prelude.{All, slice_get, option_map, is_some}
 use Rattle.std.specs.List.{Contains}
 use Rattle.std.specs.declared.alloc.Global.{Global}
 use Rattle.std.specs.declared.sync.Arc.{Arc}
 use Rattle.std.proofs.lemmas.List.{length-map}
 use Rattle.std.proofs.lemmas.List.Elements.{All-map, All-weaker, All-contains, All-contains_itself}
-use Rattle.std.proofs.lemmas.Option.{none-some, same_Some, slice_get-map, slice_get_within}
+use Rattle.std.proofs.lemmas.Option.{none-some, same_Some, slice_get-map}
 use Rattle.fancy_regex_class.specs.Classes.{in_class, folded}
 use Rattle.fancy_regex_desugar.specs.CorePatterns.{CorePattern}
 use Rattle.fancy_regex_info.specs.Infos.{InfoTree}
@@ -15,12 +15,12 @@ use Rattle.fancy_regex_program.specs.Assembled.{resolved, IsDraftOf, IsDrafted, 
 use Rattle.fancy_regex_program.specs.Code.{Layout, slots_with}
 use Rattle.fancy_regex_program.specs.Layouts.{AreApart, CallsAreLaidOut, main_code}
 use Rattle.fancy_regex_program.specs.Ops as op
-use Rattle.fancy_regex_program.specs.Ops.{Op, Place, ops_of, place_of}
+use Rattle.fancy_regex_program.specs.Ops.{Op, Place, ops_of}
 use Rattle.fancy_regex_program.specs.Shapes.{IsAllowed}
 use Rattle.fancy_regex_program.specs.declared.insn.Callee.{Callee}
 use Rattle.fancy_regex_program.specs.declared.insn.Insn.{Insn}
 use Rattle.fancy_regex_program.proofs.Resolved.{resolved_made, resolved_slots}
-use Rattle.fancy_regex_compiler.specs.Kept.{called_pattern, pattern_at, AreWrittenOutIn, with_pattern, bodies_of, IsMarked, HasBodies, IsMain, IsMetUnder, IsNeededBody, IsPlaceIn, ArePlaces, IsBodyIn, KeepsCallsOf}
+use Rattle.fancy_regex_compiler.specs.Kept.{pattern_at, with_pattern, bodies_of, HasBodies, IsMain, IsMetUnder, IsNeededBody, ArePlaces, IsBodyIn, KeepsCallsOf}
 use Rattle.fancy_regex_compiler.specs.Known.{pat_with}
 use Rattle.fancy_regex_compiler.specs.Inlined.{is_inlined, AreInlined, AreNamed}
 use Rattle.fancy_regex_compiler.specs.Needs.{IsAllowedUnder}

@@ -15,7 +15,7 @@ use Rattle.fancy_regex_program.specs.Ops.{Place}
 use Rattle.fancy_regex_program.specs.Shapes.{IsAllowed}
 use Rattle.fancy_regex_program.specs.declared.insn.Callee.{Callee}
 use Rattle.fancy_regex_compiler.specs.Inlined.{is_inlined, AreLaidOut}
-use Rattle.fancy_regex_compiler.specs.Needs.{AreAmong, IsNeeded, NoneStays, IsCallAllowed, IsAllowedUnder, AreOfGroups, AreStanding, Notes, IsNoted}
+use Rattle.fancy_regex_compiler.specs.Needs.{AreAmong, IsNeeded, NoneStays, IsCallAllowed, IsAllowedUnder, Notes, IsNoted}
 use Rattle.fancy_regex_compiler.specs.Refusals.{TreeContext, IsAnalyzed, IsExpandedTarget}
 use Rattle.fancy_regex_compiler.specs.Inlined.{draft_place, drafted_place, layout_in}
 use Rattle.fancy_regex_compiler.specs.Writing.{layout_of}

@@ -1,5 +1,5 @@
 -- Patterns that take no room: nothing is written of them.
-use Rattle.std.proofs.Common.{◌≡◌, ℕ, ◌+◌, ◌≤◌, Bool, List, Option, Some, None, refl, sym, ap, ◌∙◌, subst, arith}
+use Rattle.std.proofs.Common.{◌≡◌, ℕ, ◌+◌, Bool, List, Option, Some, None, refl, sym, ap, ◌∙◌, arith}
 use Rattle.fancy_regex_desugar.specs.CorePatterns.{CorePattern, nothing, cat, called}
 use Rattle.fancy_regex_program.specs.Code.{Layout, slots_with}
 use Rattle.fancy_regex_program.specs.Ops.{Place}

@@ -1,5 +1,5 @@
 -- Groups that write nothing but characters.
-use Rattle.std.specs.Prelude.{◌≡◌, ℕ, ◌≤◌, Bool, false, List, map, slice_get, Option, Some}
+use Rattle.std.specs.Prelude.{◌≡◌, ℕ, ◌≤◌, false, List, map, slice_get, Option, Some}
 use Rattle.std.specs.Borrow.{Bor}
 use Rattle.fancy_regex_meaning.specs.Ways.{is_at_call_limit}
 use Rattle.fancy_regex_desugar.specs.CorePatterns.{CorePattern}

@@ -1,4 +1,5 @@
--- Groups whose calls are written out where calls stay calls: small ones, which lead to no group that calls itself.
+-- Groups whose calls are written out where calls stay calls: small ones, which lead to no group that calls itself. A call that is inlined
+-- is one that is written out. The room of what is written out is a bound on the number of its instructions.
 use Rattle.std.specs.Prelude.{◌≡◌, ℕ, ◌+◌, ◌≤◌, ◌<◌, Bool, true, false, not, List, [], ◌∷◌, map, length, slice_get, slice_index_or, Option, Some, None, is_some, option_map}
 use Rattle.std.specs.declared.alloc.Global.{Global}
 use Rattle.std.specs.declared.sync.Arc.{Arc}

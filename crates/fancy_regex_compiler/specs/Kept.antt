@@ -1,5 +1,5 @@
 -- Programs in which calls stay calls, while they are put together.
-use Rattle.std.specs.Prelude.{◌≡◌, ℕ, ◌+◌, ◌*◌, ◌<◌, ◌≤◌, Bool, true, false, not, List, [], ◌∷◌, ◌++◌, map, length, All, is_some, ◌⊎◌, ◌==◌, if◌then◌else◌, slice_index_or, slice_get, Option, Some, None, Result, IfOk, IfErr}
+use Rattle.std.specs.Prelude.{◌≡◌, ℕ, ◌+◌, ◌*◌, ◌<◌, ◌≤◌, Bool, true, false, List, [], ◌∷◌, ◌++◌, map, length, All, is_some, ◌⊎◌, ◌==◌, if◌then◌else◌, slice_index_or, slice_get, Option, Some, None, Result, IfOk, IfErr}
 use Rattle.std.specs.List.{Contains}
 use Rattle.std.specs.declared.alloc.Global.{Global}
 use Rattle.std.specs.declared.sync.Arc.{Arc}
@@ -18,7 +18,7 @@ use Rattle.fancy_regex_program.specs.Shapes.{IsAllowed}
 use Rattle.fancy_regex_program.specs.declared.insn.Callee.{Callee}
 use Rattle.fancy_regex_program.specs.declared.insn.Insn.{Insn}
 use Rattle.fancy_regex_compiler.specs.Rooms.{room_with}
-use Rattle.fancy_regex_compiler.specs.Inlined.{is_inlined, most_room}
+use Rattle.fancy_regex_compiler.specs.Inlined.{most_room}
 use Rattle.fancy_regex_compiler.specs.Known.{info_written, info_call, most_calls_in, pat_with}
 use Rattle.fancy_regex_compiler.specs.Needs.{AreAmong, Notes}
 use Rattle.fancy_regex_compiler.specs.Refusals.{TreeContext, IsExpandedPart, IsExpandedTarget, IsReasonWhere}
@@ -191,7 +191,8 @@ pub record AreWrittenOutIn (layout : Layout) (infos : List InfoTree) (is_written
       ((j : ℕ) → is_written_out j ≡ true → rank j < rank k → call j ≡ other j) → (info_written call x).front ≡ (info_written other x).front
   pub small : (k : ℕ) → is_written_out k ≡ true → room_with layout (first_call infos k) ≤ most_room
 
--- These are the instructions of a pattern, by what the analysis says of the groups and of the whole, and their slots; calls stay calls.
+-- These are the instructions of a pattern, by what the analysis says of the groups and of the whole, and their slots; calls stay calls, or
+-- they are of groups whose calls are written out.
 pub record KeepsCallsOf (unicode whole anchored : Bool) (infos : List InfoTree) (x : InfoTree) (insns : List Insn) (slots : ℕ) : Type 0 where
   pub layout : Layout
   pub bodies : List assembled.Body

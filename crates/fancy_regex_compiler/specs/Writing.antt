@@ -1,19 +1,16 @@
 -- A program that is being written.
-use Rattle.std.specs.Prelude.{◌≡◌, ℕ, ◌+◌, Bool, List, [], ◌∷◌, ◌++◌, length, map, slice_get, slice_set, Option, Some, None, option_map, chars, string_bytes, if◌then◌else◌}
+use Rattle.std.specs.Prelude.{◌≡◌, ℕ, ◌+◌, Bool, List, [], ◌∷◌, ◌++◌, length, map, slice_get, slice_set, Option, Some, None, chars, string_bytes, if◌then◌else◌}
 use Rattle.std.specs.Borrow.{Bor}
-use Rattle.std.specs.declared.alloc.Global.{Global}
-use Rattle.std.specs.declared.sync.Arc.{Arc}
 use Rattle.fancy_regex_tree.specs.Tree.{Text, Tree}
 use Rattle.fancy_regex_class.specs.Classes.{in_class, folded}
 use Rattle.fancy_regex_desugar.specs.CorePatterns.{CorePattern}
 use Rattle.fancy_regex_desugar.specs.Unfolded.{Written}
 use Rattle.fancy_regex_info.specs.Infos.{InfoTree, info_of}
 use Rattle.fancy_regex_info.specs.declared.info.Info.{Info}
-use Rattle.fancy_regex_program.specs.Ops.{Op, Place, op_of, ops_of, place_of, tail, split, jump}
+use Rattle.fancy_regex_program.specs.Ops.{Op, op_of, ops_of, tail, split, jump}
 use Rattle.fancy_regex_program.specs.Code.{Layout, flushed, whole_literal, still_waits, waits_with, slots_with, code_with}
 use Rattle.fancy_regex_compiler.specs.Inlined.{layout_in}
 use Rattle.fancy_regex_compiler.specs.Known.{front_of, info_written, info_call}
-use Rattle.fancy_regex_program.specs.declared.insn.Callee.{Callee}
 use Rattle.fancy_regex_program.specs.declared.insn.Insn.{Insn}
 use Rattle.fancy_regex_compiler.specs.Needs.{IsAllowedUnder}
 use Rattle.fancy_regex_compiler.specs.declared.program_builder.ProgramBuilder.{ProgramBuilder}

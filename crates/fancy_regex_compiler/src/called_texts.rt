@@ -2,7 +2,6 @@
 //! pattern writes a text of any length.
 
 ghost use Rattle.std.specs.Prelude.{◌≡◌, ◌≤◌, ◌+◌, ℕ, List, true, false, map, IfOk, IfSome, IfNone, Some, None, slice_get};
-ghost use Rattle.fancy_regex_desugar.specs.CorePatterns.{CorePattern};
 ghost use Rattle.fancy_regex_desugar.specs.Unfolded.{cat_all};
 ghost use Rattle.fancy_regex_info.specs.Infos.{InfoTree, info_of};
 ghost use Rattle.fancy_regex_compiler.specs.Known.{info_written};

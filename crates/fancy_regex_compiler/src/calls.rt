@@ -1,4 +1,5 @@
-//! Programs in which calls stay calls: the main program, and behind it the body of each called group with its return.
+//! Programs in which calls stay calls, but for those of small groups, which are inlined: the main program, and behind it the body of each
+//! group whose calls stay, with its return.
 
 ghost use Rattle.std.specs.Prelude.{◌≡◌, ℕ, slice_get, Some, not, is_some, IfSome, ◌+◌, ◌*◌, ◌<◌, List, [], length, map, true, false, slice_index_or, All, IfOk, IfErr, None};
 ghost use Rattle.fancy_regex_analysis.specs.AnalysisErrors.{is_too_complex};
@@ -9,7 +10,7 @@ ghost use Rattle.fancy_regex_program.specs.Ops.{Op, place_of, op_of, ops_of};
 ghost use Rattle.fancy_regex_program.specs.Shapes.{IsAllowed};
 ghost use Rattle.fancy_regex_compiler.specs.Kept.{HasBodies, IsMet, MeetsNeed, WritesBodies, WholeStands, KeepsCallsOf};
 ghost use Rattle.fancy_regex_compiler.specs.Inlined.{is_inlined, AreInlined, AreNamed, AreLaidOut};
-ghost use Rattle.fancy_regex_compiler.specs.Kept.{ArePlaces, AreStacked, table_of, place_for, with_place, scope_for, Stays};
+ghost use Rattle.fancy_regex_compiler.specs.Kept.{ArePlaces, AreStacked, table_of, place_for, with_place, scope_for};
 ghost use Rattle.fancy_regex_compiler.specs.Known.{pat_with};
 ghost use Rattle.fancy_regex_compiler.specs.Needs.{AreOfGroups, AreStanding};
 ghost use Rattle.fancy_regex_compiler.specs.Refusals.{IsMemoryOrTooComplex, IsReasonWhere};
@@ -26,7 +27,7 @@ use std::alloc::{AllocError, Global};
 use std::mem;
 use std::sync::Arc;
 
-/// The body of a called group in a program.
+/// The body of a group whose calls stay, in a program.
 #[derive(Clone, Copy)]
 pub(crate) struct Body {
     /// The group.
@@ -50,7 +51,7 @@ pub(crate) struct Bodies {
     pub end: usize,
 }
 
-/// Where the called groups are, and where their open calls are kept.
+/// Where the groups are whose calls stay, and where their open calls are kept.
 #[derive(Drop)]
 pub(crate) struct Places {
     /// The place of each group, if its body was written.
@@ -59,8 +60,8 @@ pub(crate) struct Places {
     pub end: usize,
 }
 
-/// The instructions of the whole pattern in which each call stays a call, and the number of slots that they need. The error is never
-/// `PatternTooComplex`.
+/// The instructions of the whole pattern in which calls stay calls, but for those of small groups, and the number of slots that they
+/// need. The error is never `PatternTooComplex`.
 pub(crate) fn write_calls<'i, 'e>(
     context: &CompileContext<'_, 'i, 'e>,
     info: &'i Info<'e>,
@@ -134,7 +135,7 @@ fn draft_for(
     Ok(Some(shared))
 }
 
-/// Writes the main program and the bodies that are called, and lets calls lead to them.
+/// Writes the main program and the bodies of the groups whose calls stay, and lets those calls lead to them.
 fn write_kept<'i, 'e>(
     context: &CompileContext<'_, 'i, 'e>,
     info: &'i Info<'e>,

@@ -1,6 +1,6 @@
 //! The state of the compiler while it emits a program.
 
-ghost use Rattle.std.specs.Prelude.{◌≡◌, ◌≤◌, ◌+◌, ◌*◌, ◌^◌, ℕ, false, length, IfOk, IfErr};
+ghost use Rattle.std.specs.Prelude.{◌≡◌, ◌≤◌, ◌+◌, ◌*◌, ◌^◌, false, length, IfOk, IfErr};
 ghost use Rattle.fancy_regex_analysis.specs.AnalysisErrors.{is_too_complex};
 ghost use Rattle.fancy_regex_compiler.specs.CalledTexts.{AreTexts, infos_at};
 ghost use Rattle.fancy_regex_compiler.specs.Inlined.{AreNamed, AreLaidOut, AreSilent};

@@ -1,6 +1,6 @@
 //! The groups whose calls are inlined also where calls stay calls: those that are small and lead to no group that calls itself.
 
-ghost use Rattle.std.specs.Prelude.{◌≡◌, ◌≤◌, ◌<◌, ◌+◌, ℕ, List, Bool, true, false, IfSome, IfOk, Some, None, slice_get};
+ghost use Rattle.std.specs.Prelude.{◌≡◌, ◌≤◌, ◌<◌, ◌+◌, ℕ, List, true, false, IfSome, IfOk, Some, None, slice_get};
 ghost use Rattle.fancy_regex_tree.specs.Tree.{tree_of};
 ghost use Rattle.fancy_regex_info.specs.Infos.{InfoTree, info_of};
 ghost use Rattle.fancy_regex_compiler.specs.CalledTexts.{IsFree, infos_at};

@@ -1,6 +1,7 @@
 //! The compiler from an analyzed pattern to a program of the backtracking machine. Subroutine calls are inlined in programs of up to
 //! 1,000 instructions, and where a cap on the length is set, which is kept. The length of such a program is bounded by sixteen instructions
-//! for each node with calls inlined, and sixteen more. In longer programs the body of each called group stands once, and calls enter it.
+//! for each node with calls inlined, and sixteen more. In longer programs only calls of small groups are inlined; the body of each other
+//! called group stands once, and its calls enter it.
 #![tactic(auto)]
 
 mod call_order;

@@ -1,4 +1,4 @@
-use Rattle.std.proofs.Common.{◌≡◌, true, false, Option, Some, None, Ok, inl, refl, sym, ap, ◌∙◌, length, ◌<◌, arith}
+use Rattle.std.proofs.Common.{◌≡◌, Some, None, Ok, inl, refl, sym, ap, ◌∙◌, length, ◌<◌, arith}
 use Rattle.std.specs.Prelude.{slice_get, is_some}
 use Rattle.std.proofs.lemmas.Bool.{true≢false}
 use Rattle.std.proofs.lemmas.Option.{slice_get_read}

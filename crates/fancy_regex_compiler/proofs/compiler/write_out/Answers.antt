@@ -1,5 +1,4 @@
-use Rattle.std.proofs.Common.{arith, ◌≡◌, true, refl, ap, ◌∙◌}
-use Rattle.fancy_regex_desugar.specs.ProgramSizes.{room}
+use Rattle.std.proofs.Common.{arith, true, ap, ◌∙◌}
 use Rattle.fancy_regex_info.specs.Infos.{info_of}
 use Rattle.fancy_regex_compiler.specs.Rooms.{room_with}
 use Rattle.fancy_regex_compiler.specs.Known.{pat_with}

@@ -1,10 +1,10 @@
-use Rattle.std.proofs.Common.{◌≡◌, ◌<◌, ◌≤◌, ◌+◌, length, Some, None, set, option_map, sym, ap, ◌∙◌, subst, arith}
+use Rattle.std.proofs.Common.{◌≡◌, ◌<◌, ◌≤◌, length, Some, None, option_map, sym, ap, ◌∙◌, subst, arith}
 use Rattle.std.specs.Prelude.{slice_get}
 use Rattle.std.proofs.lemmas.List.{length-map}
 use Rattle.std.proofs.lemmas.Option.{slice_get-map, slice_get_read}
 use Rattle.fancy_regex_info.specs.Infos.{info_of}
 use Rattle.fancy_regex_compiler.specs.CalledTexts.{infos_at}
-use Rattle.fancy_regex_compiler.specs.Inlined.{AreInlined, TakesRoom, most_room}
+use Rattle.fancy_regex_compiler.specs.Inlined.{TakesRoom, most_room}
 use Rattle.fancy_regex_compiler.specs.Known.{info_written}
 use Rattle.fancy_regex_compiler.specs.Writing.{info_at}
 use Rattle.fancy_regex_compiler.proofs.InlinedLemmas.{inlined_more}
