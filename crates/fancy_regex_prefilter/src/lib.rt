@@ -9,6 +9,7 @@ pub mod backref;
 pub mod budget;
 pub mod char_loops;
 pub mod cursor;
+pub mod even_runs;
 pub mod failing_starts;
 pub mod instructions;
 mod leading_loops;
