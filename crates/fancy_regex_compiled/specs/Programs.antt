@@ -34,9 +34,20 @@ pub record IsWritableIfAllowed (unicode whole : Bool) (groups : ℕ) (p : CorePa
   pub first : ℕ
   pub writable : IsAllowed unicode true p → IsWritable first groups p
 
+-- What a call counts where calls stay: one node if it stays; and if it is written out, so many that sixteen instructions for each are more
+-- than what is written for it has, which is 500 at most.
+abbrev pub nodes_of_call : Bool → ℕ
+nodes_of_call true = 32
+nodes_of_call false = 1
+
+-- the nodes of the tree, and of the bodies of all groups with a return each, where calls of these groups are written out, and others stay
+abbrev pub nodes_with_calls : (ℕ → Bool) → Pattern → ℕ
+nodes_with_calls is_written_out pattern =
+    nodes_with (λ k. nodes_of_call (is_written_out k)) pattern.tree + sum_by (λ t. 1 + nodes_with (λ k. nodes_of_call (is_written_out k)) t) pattern.groups
+
 -- These are the instructions of a pattern with so many groups, and their slots, where calls stay calls: the main program, and behind it
 -- bodies of called groups, one of each, with their returns, and an end. Each call leads to the body of its group, or is written out there:
--- one of a group that leads to no call that stays.
+-- one of a group that leads to no call that stays. There are at most sixteen instructions for each node, and sixteen more.
 pub record KeepsCalls (unicode whole anchored : Bool) (groups : ℕ) (pattern : Pattern) (insns : List Insn) (slots : ℕ) : Type 0 where
   pub layout : Layout
   pub is_written_out : ℕ → Bool
@@ -46,6 +57,7 @@ pub record KeepsCalls (unicode whole anchored : Bool) (groups : ℕ) (pattern : 
   pub calls : CallsAreLaidOut layout is_written_out (core_pattern_of pattern)
   pub each : All (IsBodyOf layout is_written_out pattern.groups) bodies
   pub distinct : AreDistinct bodies
+  pub short : length insns ≤ 16 * (nodes_with_calls is_written_out pattern + 1)
 
 -- These are the instructions of a pattern, and their slots: all of its calls are written out, or calls stay calls.
 abbrev pub IsCodeOf : Bool → Bool → Bool → ℕ → Pattern → List Insn → ℕ → Type 0
@@ -90,21 +102,12 @@ abbrev pub IsTooLong : Option ℕ → InfoTree → CompileError → Type 0
 IsTooLong most x e = (explicit : Bool) (t : Tree) → x ≡ analysis explicit t → is_too_complex e ≡ true →
     IsPastCap most (16 * (program_nodes (pattern_in explicit t) + 1))
 
--- What a call counts where calls stay: what is written out for it has no more instructions than so many nodes.
-abbrev pub nodes_of_kept_call : ℕ
-nodes_of_kept_call = 32
-
--- the nodes of the tree, and of the bodies of all groups with a return each; a call counts as much, whether it stays or not
-abbrev pub nodes_with_calls : Pattern → ℕ
-nodes_with_calls pattern =
-    nodes_with (λ k. nodes_of_kept_call) pattern.tree + sum_by (λ t. 1 + nodes_with (λ k. nodes_of_kept_call) t) pattern.groups
-
 -- So many instructions are few for the pattern: at most sixteen for each node with its calls written out, and sixteen more. Where that
--- is above `most`, they may also be sixteen for each node where calls stay, and sixteen more.
+-- is above `most`, they may also be sixteen for each node where calls stay, of which any may be written out there, and sixteen more.
 abbrev pub AreFew : ℕ → ℕ → Pattern → Type 0
 AreFew most insns pattern =
     let written_out = 16 * (program_nodes pattern + 1) in
-    (insns ≤ written_out) ⊎ ((most < written_out) × (insns ≤ 16 * (nodes_with_calls pattern + 1)))
+    (insns ≤ written_out) ⊎ ((most < written_out) × (insns ≤ 16 * (nodes_with_calls (λ k. true) pattern + 1)))
 
 -- Where this is what the analysis says of a tree, the program has no more instructions than that.
 abbrev pub IsShort : ℕ → Prog → InfoTree → Type 0

@@ -1,5 +1,5 @@
 -- Steps to rows, branches, conditionals and calls.
-use Rattle.std.proofs.Common.{◌≡◌, ℕ, zero, suc, ◌+◌, ◌-◌, ◌≤◌, ◌<◌, Bool, false, List, [], ◌∷◌, ◌++◌, length, map, take, None, Some, Vec, Global, refl, sym, ap, ap₂, ◌∙◌, subst, arith, length-append}
+use Rattle.std.proofs.Common.{◌≡◌, ℕ, zero, suc, ◌+◌, ◌-◌, ◌≤◌, ◌<◌, Bool, false, List, [], ◌∷◌, ◌++◌, length, map, take, None, Some, refl, sym, ap, ap₂, ◌∙◌, subst, arith, length-append}
 use Rattle.std.proofs.Math.Seq.{take-append_seam}
 use Rattle.std.specs.Prelude.{slice_get, unwrap_or}
 use Rattle.std.proofs.lemmas.Option.{none-some}
@@ -26,6 +26,7 @@ use Rattle.fancy_regex_compiler.specs.declared.closing.Closing.TheVariants as en
 use Rattle.fancy_regex_compiler.specs.declared.emitter.CompileContext.{CompileContext}
 use Rattle.fancy_regex_compiler.specs.declared.emitter.Emitter.{Emitter}
 use Rattle.fancy_regex_compiler.specs.declared.emitter.Need.{Need}
+use Rattle.fancy_regex_compiler.specs.declared.needs.Needs.{Needs}
 use Rattle.fancy_regex_compiler.specs.declared.emitter.Scope.{Scope}
 use Rattle.fancy_regex_compiler.specs.declared.program_builder.ProgramBuilder.{ProgramBuilder}
 use Rattle.fancy_regex_compiler.specs.declared.task.Task.TheVariants as task
@@ -63,7 +64,7 @@ leads_row context e slot parts scope x rest is =
       stands = λ tree_context s stand.
           let both = expanded_rest tree_context scope.may_keep scope.may_be_absent false parts rest.now x.now is stand in
           (both.1, (both.0, tt));
-      notes = none_noted (infos_of context) e.needs.items (λ tree_context. AreExpandedParts tree_context scope.may_keep scope.may_be_absent false parts);
+      notes = none_noted (infos_of context) e.needs.list.items (λ tree_context. AreExpandedParts tree_context scope.may_keep scope.may_be_absent false parts);
     }
 
 -- a row of no part
@@ -77,7 +78,7 @@ leads_no_row context e slot parts scope is =
     (λ tree_context. AreExpandedParts tree_context scope.may_keep scope.may_be_absent false xs)) (sym is)
     (leads_nowhere context e e slot scope.may_keep nothing (λ tree_context. AreExpandedParts tree_context scope.may_keep scope.may_be_absent false [])
     (wrote_nothing (layout_of context) context.unicode context.whole e slot nothing refl) (omega arith) (λ all among. tt)
-    (none_noted (infos_of context) e.needs.items (λ tree_context. AreExpandedParts tree_context scope.may_keep scope.may_be_absent false [])))
+    (none_noted (infos_of context) e.needs.list.items (λ tree_context. AreExpandedParts tree_context scope.may_keep scope.may_be_absent false [])))
 
 -- what fails
 pub leads_fail : (context : CompileContext) (old : Emitter) (body : ProgramBuilder) (slot : ℕ) (keeps : Bool) (p : CorePattern) (S : TreeContext → Type 0) (step : Step) → p ≡ fail →
@@ -88,7 +89,7 @@ leads_fail context old body slot keeps p S step fails step_is drew long =
     subst (λ r. LeadsTo context p keeps S old new slot r) (sym step_is)
     (leads_nowhere context old new slot keeps p S (wrote_fail (layout_of context) context.unicode context.whole old new slot p fails drew refl)
     (let rooms = ap (room_of context) fails in omega (arith, long, rooms, room_fail (layout_of context)))
-    (λ all among. subst (λ q. IsLetThrough context keeps q all) (sym fails) tt) (none_noted (infos_of context) old.needs.items S))
+    (λ all among. subst (λ q. IsLetThrough context keeps q all) (sym fails) tt) (none_noted (infos_of context) old.needs.list.items S))
 
 -- a call that fails
 pub leads_no_call : (context : CompileContext) (old : Emitter) (body : ProgramBuilder) (slot : ℕ) (keeps : Bool) (k : ℕ) (p : CorePattern) (S : TreeContext → Type 0) (step : Step) → layout_of context k ≡ None → p ≡ called k fail →
@@ -100,11 +101,11 @@ leads_no_call context old body slot keeps k p S step none fails step_is drew lon
     (leads_nowhere context old new slot keeps p S (wrote_no_call (layout_of context) context.unicode context.whole old new slot k p none fails drew refl)
     (let rooms = ap (room_of context) fails in omega (arith, long, rooms, room_called (layout_of context) k fail none, room_fail (layout_of context)))
     (λ all among. subst (λ q. IsLetThrough context keeps q all) (sym fails) (called_allowed (layout_of context) all context.unicode keeps k fail none tt))
-    (none_noted (infos_of context) old.needs.items S))
+    (none_noted (infos_of context) old.needs.list.items S))
 
 -- a call that stays
-pub leads_kept_call : (context : CompileContext) (old : Emitter) (body : ProgramBuilder) (needs : Vec Need Global) (slot : ℕ) (need : Need) (c : Place) (p : CorePattern) (step : Step) →
-    layout_of context need.group ≡ Some c → need.group < length (infos_of context) → IsNoted old.needs.items needs.items need →
+pub leads_kept_call : (context : CompileContext) (old : Emitter) (body : ProgramBuilder) (needs : Needs) (slot : ℕ) (need : Need) (c : Place) (p : CorePattern) (step : Step) →
+    layout_of context need.group ≡ Some c → need.group < length (infos_of context) → IsNoted old.needs.list.items needs.list.items need →
     step ≡ record { slot = slot; tasks = tasks.Nothing } → draft_of body ≡ added (op.call c) (draft_of old.body) → extent (draft_of body) ≡ extent (draft_of old.body) + 1 →
     LeadsTo context (called need.group p) need.may_keep
     (λ tree_context. IsExpandedTarget tree_context need.may_keep need.may_be_absent (infos_of context) need.group) old
@@ -117,7 +118,7 @@ leads_kept_call context old body needs slot need c p step some there noted step_
     (wrote_kept_call (layout_of context) context.unicode context.whole old new slot need.group c p some drew refl)
     (omega (arith, long, room_stays (layout_of context) need.group c p some))
     (λ all among. kept_allowed (layout_of context) all context.unicode need c p some (among need noted.there))
-    (need_noted (infos_of context) old.needs.items needs.items need noted there))
+    (need_noted (infos_of context) old.needs.list.items needs.list.items need noted there))
 
 -- an alternation of no branch
 pub leads_no_branch : (context : CompileContext) (old : Emitter) (body : ProgramBuilder) (slot : ℕ) (branches : List Info) (steps_back : Bool) (scope : Scope) (step : Step) → branches ≡ [] →
@@ -174,7 +175,7 @@ leads_alternatives context old body slot branches steps_back scope step split fi
       stands = λ tree_context s stand.
           let both = expanded_rest tree_context scope.may_keep scope.may_be_absent steps_back branches rest.now x.now is stand in
           (both.1, (both.0, tt));
-      notes = none_noted (infos_of context) old.needs.items S;
+      notes = none_noted (infos_of context) old.needs.list.items S;
     })
 
 -- the room of an alternation of no branch, and of two or more
@@ -217,7 +218,7 @@ leads_otherwise context old body slot branches steps_back scope step split first
       allowed = λ all among h. h.1.0;
       fits = omega (arith, long);
       stands = λ tree_context s stand. (tt, (stand, tt));
-      notes = none_noted (infos_of context) old.needs.items (λ tree_context. AreExpandedParts tree_context scope.may_keep scope.may_be_absent steps_back branches.now);
+      notes = none_noted (infos_of context) old.needs.list.items (λ tree_context. AreExpandedParts tree_context scope.may_keep scope.may_be_absent steps_back branches.now);
     })
 
 -- from the condition of a conditional to its branches
@@ -251,7 +252,7 @@ leads_tested context old body slot height_slot scope step split first hit miss r
           let all : AreExpandedParts tree_context scope.may_keep scope.may_be_absent false rest.now =
           subst (AreExpandedParts tree_context scope.may_keep scope.may_be_absent false) (sym one) (alone tree_context scope.may_keep scope.may_be_absent miss.now stand.1) in
           (all, (stand.0, tt));
-      notes = none_noted (infos_of context) old.needs.items (λ tree_context. IsExpandedPart tree_context scope.may_keep scope.may_be_absent false (info_of hit.now)
+      notes = none_noted (infos_of context) old.needs.list.items (λ tree_context. IsExpandedPart tree_context scope.may_keep scope.may_be_absent false (info_of hit.now)
           × IsExpandedPart tree_context scope.may_keep scope.may_be_absent false (info_of miss.now));
     })
   where
@@ -281,14 +282,14 @@ leads_condition context old body slot inside scope step split first t x y z d st
       allowed = λ all among h. (h.1.0, h.0.0, h.0.1);
       fits = omega (arith, long, room_conditional (layout_of context) q (f y.now) (f z.now));
       stands = λ tree_context s stand. ((stand.yes, stand.no), (stand.condition, tt));
-      notes = none_noted (infos_of context) old.needs.items
+      notes = none_noted (infos_of context) old.needs.list.items
           (λ tree_context. IsExpandedConditional tree_context scope.may_keep scope.may_be_absent (tree_of t.now) (info_of x.now) (info_of y.now) (info_of z.now));
     })
 
 -- a call that opens
 pub leads_call : (context : CompileContext) (old new : Emitter) (slot m k : ℕ) (scope inner : Scope) (x : Bor Info) → layout_of context k ≡ None → scope.calls_left ≡ suc m → inner.calls_left ≡ m →
     inner.may_keep ≡ scope.may_keep → inner.may_be_absent ≡ scope.may_be_absent → slice_get (infos_of context) k ≡ Some (info_of x.now) →
-    is_at_call_limit old.opened.items k ≡ false → draft_of new.body ≡ draft_of old.body → new.opened.items ≡ old.opened.items ++ k ∷ [] → new.needs.items ≡ old.needs.items →
+    is_at_call_limit old.opened.items k ≡ false → draft_of new.body ≡ draft_of old.body → new.opened.items ≡ old.opened.items ++ k ∷ [] → new.needs.list.items ≡ old.needs.list.items →
     Leads context old new slot slot (task.EndCall ∷ task.Node x false inner ∷ []) (past_pattern context (info_call (infos_of context) scope.calls_left old.opened.items k) (progress old slot))
     (IsLetThrough context scope.may_keep (info_call (infos_of context) scope.calls_left old.opened.items k)) (room_of context (info_call (infos_of context) scope.calls_left old.opened.items k))
     (λ tree_context. IsExpandedTarget tree_context scope.may_keep scope.may_be_absent (infos_of context) k)
@@ -307,7 +308,7 @@ leads_call context old new slot m k scope inner x none more less keeps absents a
       allowed = λ all among h. subst (λ r. IsLetThrough context scope.may_keep r all) (sym is)
           (called_allowed (layout_of context) all context.unicode scope.may_keep k q none (subst (λ b. IsLetThrough context b q all) keeps h.1.0));
       fits = (let rooms = ap (room_of context) is in let extents = ap extent same in omega (arith, rooms, room_called (layout_of context) k q none, extents));
-      notes = same_noted (infos_of context) old.needs.items new.needs.items
+      notes = same_noted (infos_of context) old.needs.list.items new.needs.list.items
           (λ tree_context. IsExpandedTarget tree_context scope.may_keep scope.may_be_absent (infos_of context) k) needs;
       stands = λ tree_context s stand.
           let body : IsExpandedPart tree_context inner.may_keep inner.may_be_absent false (info_of x.now) =
@@ -327,13 +328,13 @@ leads_close context old body slot c S step step_is drew =
       allowed = λ all among h. tt;
       fits = (let same = ap extent drew in omega (arith, same, closing_fits c (draft_of old.body)));
       stands = λ tree_context s stand. tt;
-      notes = none_noted (infos_of context) old.needs.items S;
+      notes = none_noted (infos_of context) old.needs.list.items S;
     })
 
 -- the end of a call
 pub leads_end_call : (context : CompileContext) (old new : Emitter) (slot : ℕ) (S : TreeContext → Type 0) (step : Step) →
     step ≡ record { slot = slot; tasks = tasks.Nothing } → draft_of new.body ≡ draft_of old.body → new.opened.items ≡ take (length old.opened.items - 1) old.opened.items →
-    new.needs.items ≡ old.needs.items →
+    new.needs.list.items ≡ old.needs.list.items →
     Leads context old new slot step.slot (listed step.tasks) (past context task.EndCall (progress old slot)) (λ all. Unit {0}) 0 S
 leads_end_call context old new slot S step step_is same popped needs =
     subst (λ r. Leads context old new slot r.slot (listed r.tasks) (past context task.EndCall (progress old slot)) (λ all. Unit {0}) 0 S) (sym step_is) (record {
@@ -341,5 +342,5 @@ leads_end_call context old new slot S step step_is same popped needs =
       allowed = λ all among h. tt;
       fits = (let extents = ap extent same in omega (arith, extents));
       stands = λ tree_context s stand. tt;
-      notes = same_noted (infos_of context) old.needs.items new.needs.items S needs;
+      notes = same_noted (infos_of context) old.needs.list.items new.needs.list.items S needs;
     })

@@ -44,7 +44,7 @@ delegated_room layout for_any t p e = ap (room_with layout) (is_delegate for_any
 
 module _ (context : CompileContext) (old new : Emitter) (slot : ℕ) (for_any : Bool) (t : Tree) (p : CorePattern) (part : Arc Delegate Global)
     (h : IsDelegateOf context.unicode for_any t part.value) (drew : draft_of new.body ≡ added (op_of (insn.Delegate part)) (draft_of old.body))
-    (opened : new.opened.items ≡ old.opened.items) (needs : new.needs.items ≡ old.needs.items) where
+    (opened : new.opened.items ≡ old.opened.items) (needs : new.needs.list.items ≡ old.needs.list.items) where
   same_op : op_of (insn.Delegate part) ≡ op.delegate (in_class context.unicode) (folded context.unicode) (searched for_any t)
   same_op = λ i. op.delegate (in_class (h.unicode_is i)) (folded (h.unicode_is i)) (searched (h.for_any_is i) (h.part i))
 
@@ -62,7 +62,7 @@ module _ (context : CompileContext) (old new : Emitter) (slot : ℕ) (for_any : 
   leads_delegate keeps S step is =
       leads_nothing context old new slot keeps (body_of for_any t p) S step is wrote_delegate (took wrote_delegate)
       (λ all among. subst (λ q. IsLetThrough context keeps q all) (sym (is_delegate for_any t p h.delegated)) h.read)
-      (same_noted (infos_of context) old.needs.items new.needs.items S needs)
+      (same_noted (infos_of context) old.needs.list.items new.needs.list.items S needs)
 
 -- a body that is not delegated
 pub leads_written : (context : CompileContext) (e : Emitter) (slot : ℕ) (for_any : Bool) (body : Bor Expr) (info : Bor Info) (scope : Scope) (step : Step) →

@@ -94,6 +94,13 @@ module _ (rooms : List (Option ℕ)) where
     same = λ call other s. is call ∙ ap f (h.same call other s) ∙ sym (is other);
   }
 
+  -- more room is room too
+  pub takes_work : (p : Pattern) (m n : ℕ) → m ≤ n → TakesRoom rooms m p → TakesRoom rooms n p
+  takes_work p m n le h = record {
+    fits = λ layout call have. let inner = h.fits layout call (fewer layout m n call le have) in omega (arith, inner, le);
+    same = h.same;
+  }
+
   pub takes_nothing : (i : Info) → ((call : ℕ → CorePattern) → node_front i call ≡ nothing) → TakesRoom rooms 0 (node_front i)
   takes_nothing i is = record {
     fits = λ layout call have. let same = ap (room_with layout) (is call) in omega (arith, same, room_nothing layout);

@@ -1,5 +1,5 @@
 -- How long a program is whose calls stay.
-use Rattle.std.proofs.Common.{◌≡◌, ℕ, zero, suc, ◌+◌, ◌*◌, ◌<◌, ◌≤◌, Bool, true, List, [], ◌∷◌, ◌++◌, map, length, get_or, Option, Some, None, option_map, sum, refl, sym, ap, ap₂, subst, ⊎_elim, ◌∙◌, arith, length-append}
+use Rattle.std.proofs.Common.{◌≡◌, ℕ, zero, suc, ◌+◌, ◌*◌, ◌-◌, ◌<◌, ◌≤◌, Bool, true, false, List, [], ◌∷◌, ◌++◌, map, length, get_or, Option, Some, None, option_map, sum, refl, sym, ap, ap₂, subst, ⊎_elim, ◌∙◌, arith, length-append}
 use Rattle.std.specs.Prelude.{All, is_some, slice_get}
 use Rattle.std.proofs.Math.ListN.{set}
 use Rattle.std.proofs.lemmas.List.{get_or-set_other, length-map, length-set}
@@ -22,14 +22,14 @@ use Rattle.fancy_regex_program.specs.Layouts.{IsLaidOut, CallsAreLaidOut, body_p
 use Rattle.fancy_regex_program.specs.Ops as op
 use Rattle.fancy_regex_program.specs.Ops.{Op, Place}
 use Rattle.fancy_regex_program.proofs.WrittenParts.{PartByPart, of_tree, of_whole}
-use Rattle.fancy_regex_compiled.specs.Programs.{nodes_of_kept_call, nodes_with_calls}
+use Rattle.fancy_regex_compiled.specs.Programs.{nodes_of_call, nodes_with_calls}
 use Rattle.fancy_regex_program.proofs.WrittenOut.{is_call}
 use Rattle.fancy_regex_compiler.specs.Rooms.{room_at_call, room_with}
 use Rattle.fancy_regex_compiler.specs.Inlined.{most_room}
 use Rattle.fancy_regex_compiler.proofs.LengthLemmas.{opening_long, closing_long}
 use Rattle.fancy_regex_compiler.proofs.RoomLemmas.{code_fits}
 
--- A pattern with so much room, and what stands for a call that has as much as one that is written out where calls stay.
+-- A pattern with so much room, and what stands for a call: it has as much as the call may have, where these calls count as written out.
 unfoldable filler : ℕ → CorePattern
 filler zero = nothing
 filler (suc n) = cat (back 1) (filler n)
@@ -39,15 +39,24 @@ unfolding room filler
 filler_room zero = refl
 filler_room (suc n) = omega (arith, filler_room n)
 
-unfoldable stand : ℕ → CorePattern
-stand k = called k (filler most_room)
+-- a call counts one node at least
+call_counts : (out : Bool) → 1 ≤ nodes_of_call out
+call_counts true = omega arith
+call_counts false = omega arith
 
-stand_room : (k : ℕ) → room (stand k) ≡ most_room
+-- what takes as much room as so many nodes
+abbrev most_in : ℕ → ℕ
+most_in nodes = 16 * nodes - 3
+
+unfoldable stand : (ℕ → Bool) → ℕ → CorePattern
+stand counted k = called k (filler (most_in (nodes_of_call (counted k))))
+
+stand_room : (counted : ℕ → Bool) (k : ℕ) → room (stand counted k) ≡ most_in (nodes_of_call (counted k))
 unfolding room stand
-stand_room k = filler_room most_room
+stand_room counted k = filler_room (most_in (nodes_of_call (counted k)))
 
-stand_fits : (k : ℕ) → Fits (stand k) nodes_of_kept_call
-stand_fits k = record { is = omega (arith, stand_room k) }
+stand_fits : (counted : ℕ → Bool) (k : ℕ) → Fits (stand counted k) (nodes_of_call (counted k))
+stand_fits counted k = record { is = let one = call_counts (counted k) in omega (arith, one, stand_room counted k) }
 
 module _ (layout : Layout) (is_written_out : ℕ → Bool) where
   -- Where the calls of the first pattern stay or are of such groups, it has room in that of the second.
@@ -80,38 +89,51 @@ module _ (layout : Layout) (is_written_out : ℕ → Bool) where
     of_absent = λ a b h s. omega (arith, h s);
   }
 
-  module _ (groups : List Tree) (small : (k : ℕ) → is_written_out k ≡ true → room_with layout (written_call groups (max_open_calls groups) [] k) ≤ most_room) where
+  module _ (groups : List Tree) (small : (k : ℕ) → is_written_out k ≡ true → room_with layout (written_call groups (max_open_calls groups) [] k) ≤ most_room)
+      (counted : ℕ → Bool) (all_counted : (k : ℕ) → is_written_out k ≡ true → counted k ≡ true) where
     abbrev first : ℕ → CorePattern
     first = written_call groups (max_open_calls groups) []
 
-    kept_room : (o : Option Place) (n : ℕ) → is_some o ≡ true → room_at_call o n ≤ most_room
+    kept_room : (o : Option Place) (n : ℕ) → is_some o ≡ true → room_at_call o n ≤ 1
     kept_room None n stays = absurd cc
     kept_room (Some c) n stays = omega arith
 
-    fit_kept : (k : ℕ) (p : CorePattern) → is_some (layout k) ≡ true → room_with layout (called k p) ≤ most_room
+    fit_kept : (k : ℕ) (p : CorePattern) → is_some (layout k) ≡ true → room_with layout (called k p) ≤ 1
     unfolding room_with
     fit_kept k p stays = kept_room (layout k) (room_with layout p) stays
 
-    fit_first : (k : ℕ) → FitsIn (first k) (stand k)
+    -- one that stays, and one that is written out
+    first_stays : (k : ℕ) → is_some (layout k) ≡ true → room_with layout (first k) ≤ most_in (nodes_of_call (counted k))
+    first_stays k stays =
+        let call = is_call groups (max_open_calls groups) [] k in
+        let one = subst (λ p. room_with layout p ≤ 1) (sym call.is) (fit_kept k call.inside stays) in
+        let counts = call_counts (counted k) in
+        omega (arith, one, counts)
+
+    first_out : (k : ℕ) → is_written_out k ≡ true → room_with layout (first k) ≤ most_in (nodes_of_call (counted k))
+    first_out k out =
+        let low = small k out in
+        let many : nodes_of_call (counted k) ≡ 32 = ap nodes_of_call (all_counted k out) in
+        omega (arith, low, many)
+
+    fit_first : (k : ℕ) → FitsIn (first k) (stand counted k)
     fit_first k laid_out =
         let call = is_call groups (max_open_calls groups) [] k in
         let is : IsLaidOut layout is_written_out k = subst (CallsAreLaidOut layout is_written_out) call.is laid_out in
-        let low : room_with layout (first k) ≤ most_room =
-        ⊎_elim (λ (stays : is_some (layout k) ≡ true). subst (λ p. room_with layout p ≤ most_room) (sym call.is) (fit_kept k call.inside stays))
-        (λ (out : is_written_out k ≡ true). small k out) is in
-        omega (arith, low, stand_room k)
+        let low = ⊎_elim (first_stays k) (first_out k) is in
+        omega (arith, low, stand_room counted k)
 
     -- a whole pattern, and the body of a group
-    room_kept : (n : ℕ) (t : Tree) → CallsAreLaidOut layout is_written_out (written_whole groups first n t) → room_with layout (written_whole groups first n t) + 3 ≤ 16 * nodes_with (λ k. nodes_of_kept_call) t
+    room_kept : (n : ℕ) (t : Tree) → CallsAreLaidOut layout is_written_out (written_whole groups first n t) → room_with layout (written_whole groups first n t) + 3 ≤ 16 * nodes_with (λ j. nodes_of_call (counted j)) t
     room_kept n t laid_out =
-        let fits = of_whole FitsIn fit_parts groups first stand fit_first n t laid_out in
-        let whole = (whole_has_room groups stand (λ k. nodes_of_kept_call) stand_fits n t).is in
+        let fits = of_whole FitsIn fit_parts groups first (stand counted) fit_first n t laid_out in
+        let whole = (whole_has_room groups (stand counted) (λ j. nodes_of_call (counted j)) (stand_fits counted) n t).is in
         omega (arith, fits, whole)
 
-    room_body : (k : ℕ) (t : Tree) → CallsAreLaidOut layout is_written_out (body_pattern groups k t) → room_with layout (body_pattern groups k t) + 3 ≤ 16 * nodes_with (λ j. nodes_of_kept_call) t
+    room_body : (k : ℕ) (t : Tree) → CallsAreLaidOut layout is_written_out (body_pattern groups k t) → room_with layout (body_pattern groups k t) + 3 ≤ 16 * nodes_with (λ j. nodes_of_call (counted j)) t
     room_body k t laid_out =
-        let fits = (of_tree FitsIn fit_parts groups first stand fit_first (k + 1) t).front laid_out in
-        let part = (part_has_room groups stand (λ j. nodes_of_kept_call) stand_fits (k + 1) t).front in
+        let fits = (of_tree FitsIn fit_parts groups first (stand counted) fit_first (k + 1) t).front laid_out in
+        let part = (part_has_room groups (stand counted) (λ j. nodes_of_call (counted j)) (stand_fits counted) (k + 1) t).front in
         omega (arith, fits, part)
 
 -- the weights of the bodies' groups
@@ -165,10 +187,11 @@ module _ (u w : Bool) (layout : Layout) where
         length-append body e,
       )
 
-  module _ (is_written_out : ℕ → Bool) (groups : List Tree) (small : (k : ℕ) → is_written_out k ≡ true → room_with layout (written_call groups (max_open_calls groups) [] k) ≤ most_room) where
+  module _ (is_written_out : ℕ → Bool) (groups : List Tree) (small : (k : ℕ) → is_written_out k ≡ true → room_with layout (written_call groups (max_open_calls groups) [] k) ≤ most_room)
+      (counted : ℕ → Bool) (all_counted : (k : ℕ) → is_written_out k ≡ true → counted k ≡ true) where
     -- what the body of a group weighs: its nodes, and one for its return
     abbrev weight : Tree → ℕ
-    weight t = 1 + nodes_with (λ k. nodes_of_kept_call) t
+    weight t = 1 + nodes_with (λ k. nodes_of_call (counted k)) t
 
     weight_at : (b : Body) (t : Tree) → target groups b.group ≡ Some t → get_or (map weight groups) b.group 0 ≡ weight t
     weight_at b t is = get_or_from_slice_get (map weight groups) b.group (weight t) 0 (slice_get-map weight groups b.group ∙ ap (option_map weight) is)
@@ -176,7 +199,7 @@ module _ (u w : Bool) (layout : Layout) where
     body_long : (b : Body) → IsBodyOf layout is_written_out groups b → length (stretch (in_class u) (folded u) w layout b) ≤ 16 * get_or (map weight groups) b.group 0
     body_long b is =
         let laid_out = subst (CallsAreLaidOut layout is_written_out) is.pattern is.calls in
-        omega (arith, stretch_long b, ap (room_with layout) is.pattern, room_body layout is_written_out groups small b.group is.tree laid_out, weight_at b is.tree is.is_target)
+        omega (arith, stretch_long b, ap (room_with layout) is.pattern, room_body layout is_written_out groups small counted all_counted b.group is.tree laid_out, weight_at b is.tree is.is_target)
 
     row_long : (bs : List Body) → All (IsBodyOf layout is_written_out groups) bs → length (stretches (in_class u) (folded u) w layout bs) ≤ 16 * total (map weight groups) bs
     row_long [] each = omega arith
@@ -194,14 +217,16 @@ module _ (u w : Bool) (layout : Layout) where
         let is : IsBodyOf layout is_written_out groups c = subst P (get_or_from_slice_get bs j c c at) (All-get_or P bs j c (slice_get_within bs j c at) each) in
         omega (arith, slice_get_within groups c.group is.tree is.is_target, length-map groups weight)
 
-  -- A program of a tree's pattern has few instructions: sixteen for each node and each return, and sixteen more.
+  -- A program of a tree's pattern has few instructions: sixteen for each node and each return, and sixteen more. Each call that is written out
+  -- counts as such.
   pub assembled_is_few : (is_written_out : ℕ → Bool) (anchored : Bool) (count : ℕ) (pattern : Pattern) (bodies : List Body) (code : List Op) →
       IsMadeOf (in_class u) (folded u) w layout anchored count (core_pattern_of pattern) bodies code →
       ((k : ℕ) → is_written_out k ≡ true → room_with layout (written_call pattern.groups (max_open_calls pattern.groups) [] k) ≤ most_room) →
+      (counted : ℕ → Bool) → ((k : ℕ) → is_written_out k ≡ true → counted k ≡ true) →
       CallsAreLaidOut layout is_written_out (core_pattern_of pattern) → All (IsBodyOf layout is_written_out pattern.groups) bodies → AreDistinct bodies →
-      length code ≤ 16 * (nodes_with_calls pattern + 1)
+      length code ≤ 16 * (nodes_with_calls counted pattern + 1)
   unfolding core_pattern_of
-  assembled_is_few is_written_out anchored count pattern bodies code made small laid_out each distinct =
+  assembled_is_few is_written_out anchored count pattern bodies code made small counted all_counted laid_out each distinct =
       let main = main_code (in_class u) (folded u) w layout anchored count (core_pattern_of pattern) in
       let row = stretches (in_class u) (folded u) w layout bodies in
       let groups = pattern.groups in
@@ -212,8 +237,8 @@ module _ (u w : Bool) (layout : Layout) where
         length-append main (row ++ end),
         length-append row end,
         main_long anchored count (core_pattern_of pattern),
-        room_kept layout is_written_out groups small pattern.first_group pattern.tree laid_out,
-        row_long is_written_out groups small bodies each,
-        total_fits (map (weight is_written_out groups small) groups) bodies (group_there is_written_out groups small bodies each) distinct,
-        sum-map (weight is_written_out groups small) groups,
+        room_kept layout is_written_out groups small counted all_counted pattern.first_group pattern.tree laid_out,
+        row_long is_written_out groups small counted all_counted bodies each,
+        total_fits (map (weight is_written_out groups small counted all_counted) groups) bodies (group_there is_written_out groups small counted all_counted bodies each) distinct,
+        sum-map (weight is_written_out groups small counted all_counted) groups,
       )

@@ -122,6 +122,16 @@ module _ (u w anchored explicit : Bool) (t : Tree) (infos : List InfoTree) (x : 
     bodies_are kept =
         All-weaker (IsBodyIn u kept.layout kept.is_written_out infos) (IsBodyOf kept.layout kept.is_written_out pattern.groups) (body_of_tree kept.layout kept.is_written_out) kept.bodies kept.each
 
+    kept_is_few : (kept : KeepsCallsOf u w anchored infos x insns slots) (counted : ℕ → Bool) → ((k : ℕ) → kept.is_written_out k ≡ true → counted k ≡ true) →
+        length insns ≤ 16 * (nodes_with_calls counted pattern + 1)
+    kept_is_few kept counted all_counted =
+        let P = λ (p : CorePattern). IsMadeOf (in_class u) (folded u) w kept.layout anchored (length infos) p kept.bodies (ops_of insns) in
+        let small : (k : ℕ) → kept.is_written_out k ≡ true → room_with kept.layout (written_call pattern.groups (max_open_calls pattern.groups) [] k) ≤ most_room =
+        λ k out. subst (λ (c : ℕ → CorePattern). room_with kept.layout (c k) ≤ most_room) first_calls (kept.written_out.small k out) in
+        let few = assembled_is_few u w kept.layout kept.is_written_out anchored (length infos) pattern kept.bodies (ops_of insns) (subst P pat kept.code.made) small counted all_counted
+        (subst (CallsAreLaidOut kept.layout kept.is_written_out) pat kept.calls) (bodies_are kept) kept.distinct in
+        omega (arith, few, length-map insns op_of)
+
     keeps_calls : KeepsCallsOf u w anchored infos x insns slots → KeepsCalls u w anchored (length infos) pattern insns slots
     keeps_calls kept =
         let P = λ (p : CorePattern). IsAssembled (in_class u) (folded u) w kept.layout anchored (length infos) p kept.bodies (ops_of insns) slots in
@@ -134,16 +144,8 @@ module _ (u w anchored explicit : Bool) (t : Tree) (infos : List InfoTree) (x : 
           calls = subst (CallsAreLaidOut kept.layout kept.is_written_out) pat kept.calls;
           each = bodies_are kept;
           distinct = kept.distinct;
+          short = kept_is_few kept kept.is_written_out (λ k out. out);
         }
-
-    kept_is_few : (kept : KeepsCallsOf u w anchored infos x insns slots) → length insns ≤ 16 * (nodes_with_calls pattern + 1)
-    kept_is_few kept =
-        let P = λ (p : CorePattern). IsMadeOf (in_class u) (folded u) w kept.layout anchored (length infos) p kept.bodies (ops_of insns) in
-        let small : (k : ℕ) → kept.is_written_out k ≡ true → room_with kept.layout (written_call pattern.groups (max_open_calls pattern.groups) [] k) ≤ most_room =
-        λ k out. subst (λ (c : ℕ → CorePattern). room_with kept.layout (c k) ≤ most_room) first_calls (kept.written_out.small k out) in
-        let few = assembled_is_few u w kept.layout kept.is_written_out anchored (length infos) pattern kept.bodies (ops_of insns) (subst P pat kept.code.made) small
-        (subst (CallsAreLaidOut kept.layout kept.is_written_out) pat kept.calls) (bodies_are kept) kept.distinct in
-        omega (arith, few, length-map insns op_of)
 
     whole_of_tree : IsWhole u w anchored (length infos) (pat_with infos x) insns slots → IsWhole u w anchored (length infos) (core_pattern_of pattern) insns slots
     whole_of_tree whole = let P = λ (p : CorePattern). IsWhole u w anchored (length infos) p insns slots in subst P pat whole
@@ -155,7 +157,7 @@ module _ (u w anchored explicit : Bool) (t : Tree) (infos : List InfoTree) (x : 
 
       pub few_of_tree : IsWritten cap most u w anchored infos x insns slots → AreFew most (length insns) pattern
       few_of_tree (inl whole) = whole_short most u w anchored (length infos) pattern (pat_with infos x) insns slots whole pat
-      few_of_tree (inr long) = inr (omega (arith, long.long, ap room pat, pattern_size_is_bounded pattern), kept_is_few long.kept)
+      few_of_tree (inr long) = inr (omega (arith, long.long, ap room pat, pattern_size_is_bounded pattern), kept_is_few long.kept (λ k. true) (λ k out. refl))
 
       -- with a cap the calls are written out
       pub written_out_of_tree : (cap ≡ None → ⊥) → IsWritten cap most u w anchored infos x insns slots →

@@ -37,8 +37,8 @@ module _ (context : CompileContext) (need : Need) (i : Info) (at : slice_get (in
   pub body_pattern : node_pattern context i false (scope_for context need) opened ≡ pattern_at (infos_of context) need.group
   body_pattern = called_is (infos_of context) opened (info_of i) none ∙ sym (pattern_is (infos_of context) need.group (info_of i) at)
 
-  module _ {A : Type 0} (start old mid new : Emitter) (scope : Scope) (slot : ℕ) (is : scope ≡ scope_for context need) (begins : old.needs.items ≡ start.needs.items)
-      (same_calls : old.opened.items ≡ start.opened.items) (shut : new.opened.items ≡ mid.opened.items) (same : new.needs.items ≡ mid.needs.items) where
+  module _ {A : Type 0} (start old mid new : Emitter) (scope : Scope) (slot : ℕ) (is : scope ≡ scope_for context need) (begins : old.needs.list.items ≡ start.needs.list.items)
+      (same_calls : old.opened.items ≡ start.opened.items) (shut : new.opened.items ≡ mid.opened.items) (same : new.needs.list.items ≡ mid.needs.list.items) where
     pub met_ok : (after : ℕ) (a : A) → Emitted context i scope opened old mid slot (Ok after) → MeetsNeed context need start new (Ok a)
     met_ok after a emitted =
         let h = subst (λ s. Emitted context i s opened old mid slot (Ok after)) is emitted in

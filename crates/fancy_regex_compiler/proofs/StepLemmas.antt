@@ -165,7 +165,7 @@ leads_on context old mid new slot now rest left t step end A m S is h k =
           let first = allowed_first context all rest ts new.opened.items some in
           let second = allowed_second context all rest ts new.opened.items some in
           let this : IsAllowedTask context t mid.opened.items all = k.allowed all among second in
-          let before = among_before (infos_of context) mid.needs.items new.needs.items all (λ tree_context. IsExpandedTask tree_context t) k.notes among in
+          let before = among_before (infos_of context) mid.needs.list.items new.needs.list.items all (λ tree_context. IsExpandedTask tree_context t) k.notes among in
           h.allowed all before (subst (λ xs. AreAllowedTasks context xs mid.opened.items all) (sym is)
           (allowed_both context all rest (t ∷ []) mid.opened.items (subst (λ o. AreAllowedTasks context rest o all) opened first) (this, tt)));
       fits =
@@ -176,7 +176,7 @@ leads_on context old mid new slot now rest left t step end A m S is h k =
           let all = standing tree_context s stand in
           let last = expanded_second tree_context rest (t ∷ []) all in
           expanded_both tree_context rest ts (expanded_first tree_context rest (t ∷ []) all) (k.stands tree_context s last.0);
-      notes = both_noted (infos_of context) old.needs.items mid.needs.items new.needs.items S (λ tree_context. IsExpandedTask tree_context t) h.notes
+      notes = both_noted (infos_of context) old.needs.list.items mid.needs.list.items new.needs.list.items S (λ tree_context. IsExpandedTask tree_context t) h.notes
           (λ tree_context s stand. (expanded_second tree_context rest (t ∷ []) (standing tree_context s stand)).0) k.notes;
     }
   where
@@ -192,8 +192,8 @@ last_room context rest left t o is =
 -- where all of a task is emitted that is a pattern
 pub emits_all : (context : CompileContext) (p : CorePattern) (keeps : Bool) (S : TreeContext → Type 0) (old new : Emitter) (slot : ℕ) (r : Result ℕ CompileError) →
     new.body.cap ≡ old.body.cap → IfOk r (λ after. progress new after ≡ past_pattern context p (progress old slot)) →
-    IfOk r (λ after. (all : List Need) → AreAmong new.needs.items all → IsLetThrough context keeps p all) →
-    IfOk r (λ after. Notes (infos_of context) old.needs.items new.needs.items S) → IfErr r (IsFull old.body (room_of context p)) →
+    IfOk r (λ after. (all : List Need) → AreAmong new.needs.list.items all → IsLetThrough context keeps p all) →
+    IfOk r (λ after. Notes (infos_of context) old.needs.list.items new.needs.list.items S) → IfErr r (IsFull old.body (room_of context p)) →
     IfErr r (IsReasonWhere context.unicode (infos_of context) S) → EmitsAll context p keeps S old new slot r
 emits_all context p keeps S old new slot r cap ends allowed notes full refused = record {
   cap = cap;
@@ -222,7 +222,7 @@ leads_as r context old new slot keeps p q A B is f h =
       allowed = k.allowed;
       fits = k.fits;
       stands = λ tree_context s b. k.stands tree_context s (f tree_context s b);
-      notes = notes_weaker (infos_of context) old.needs.items new.needs.items A B f k.notes;
+      notes = notes_weaker (infos_of context) old.needs.list.items new.needs.list.items A B f k.notes;
     }) h)
 
 pub leads_as_any : (r : Result Step CompileError) (context : CompileContext) (old new : Emitter) (slot : ℕ) (keeps : Bool) (p : CompileContext → CorePattern) (q : CorePattern)
@@ -244,7 +244,7 @@ leads_each r old new slot keeps p q A B is f h =
 -- a step to nothing more
 pub leads_nowhere : (context : CompileContext) (old new : Emitter) (slot : ℕ) (keeps : Bool) (p : CorePattern) (S : TreeContext → Type 0) →
     Wrote (layout_of context) context.unicode context.whole old new slot slot p → extent (draft_of new.body) ≤ extent (draft_of old.body) + room_of context p →
-    ((all : List Need) → AreAmong new.needs.items all → IsLetThrough context keeps p all) → Notes (infos_of context) old.needs.items new.needs.items S →
+    ((all : List Need) → AreAmong new.needs.list.items all → IsLetThrough context keeps p all) → Notes (infos_of context) old.needs.list.items new.needs.list.items S →
     Leads context old new slot slot [] (past_pattern context p (progress old slot)) (IsLetThrough context keeps p) (room_of context p) S
 leads_nowhere context old new slot keeps p S h fits allowed notes = record {
   ends = same_progress h.draft h.slots h.opened;
@@ -258,7 +258,7 @@ leads_nowhere context old new slot keeps p S h fits allowed notes = record {
 pub leads_nothing : (context : CompileContext) (old new : Emitter) (slot : ℕ) (keeps : Bool) (p : CorePattern) (S : TreeContext → Type 0) (step : Step) →
     step ≡ record { slot = slot; tasks = tasks.Nothing } → Wrote (layout_of context) context.unicode context.whole old new slot slot p →
     extent (draft_of new.body) ≤ extent (draft_of old.body) + room_of context p →
-    ((all : List Need) → AreAmong new.needs.items all → IsLetThrough context keeps p all) → Notes (infos_of context) old.needs.items new.needs.items S →
+    ((all : List Need) → AreAmong new.needs.list.items all → IsLetThrough context keeps p all) → Notes (infos_of context) old.needs.list.items new.needs.list.items S →
     LeadsTo context p keeps S old new slot step
 leads_nothing context old new slot keeps p S step is h fits allowed notes =
     subst (λ r. LeadsTo context p keeps S old new slot r) (sym is) (leads_nowhere context old new slot keeps p S h fits allowed notes)
@@ -275,7 +275,7 @@ leads_one context e slot keeps p q t S is ends allowed opened fits stands =
       allowed = λ all among h. allowed all h.0;
       fits = omega (arith, fits);
       stands = λ tree_context s stand. (stands tree_context s stand, tt);
-      notes = none_noted (infos_of context) e.needs.items S;
+      notes = none_noted (infos_of context) e.needs.list.items S;
     })
 
 -- the same, of the step
@@ -299,12 +299,12 @@ leads_begin context e slot t left is =
       allowed = λ all among h. h.0;
       fits = omega arith;
       stands = λ tree_context s stand. (stand, tt);
-      notes = none_noted (infos_of context) e.needs.items S;
+      notes = none_noted (infos_of context) e.needs.list.items S;
     })
 
 -- the same step, from as far back as it is long
 pub leads_back : (r : Result Step CompileError) (context : CompileContext) (old mid new : Emitter) (slot : ℕ) (keeps : Bool) (n : ℕ) (p q : CorePattern) (A B : TreeContext → Type 0) →
-    q ≡ cat (back n) p → draft_of mid.body ≡ added (op.go_back n) (draft_of old.body) → mid.opened.items ≡ old.opened.items → mid.needs.items ≡ old.needs.items →
+    q ≡ cat (back n) p → draft_of mid.body ≡ added (op.go_back n) (draft_of old.body) → mid.opened.items ≡ old.opened.items → mid.needs.list.items ≡ old.needs.list.items →
     extent (draft_of mid.body) ≡ extent (draft_of old.body) + 1 →
     ((tree_context : TreeContext) → IsAnalyzed tree_context (infos_of context) → B tree_context → A tree_context) →
     IfOk r (LeadsTo context p keeps A mid new slot) → IfOk r (LeadsTo context q keeps B old new slot)
@@ -322,8 +322,8 @@ leads_back r context old mid new slot keeps n p q A B is drew opened needs long 
       allowed = λ all among some. (tt, k.allowed all among some);
       fits = omega (arith, k.fits, long, room_behind layout n p);
       stands = λ tree_context s b. k.stands tree_context s (f tree_context s b);
-      notes = notes_after (infos_of context) old.needs.items mid.needs.items new.needs.items B needs
-          (notes_weaker (infos_of context) mid.needs.items new.needs.items A B f k.notes);
+      notes = notes_after (infos_of context) old.needs.list.items mid.needs.list.items new.needs.list.items B needs
+          (notes_weaker (infos_of context) mid.needs.list.items new.needs.list.items A B f k.notes);
     }) h)
 
 -- a step to a part of a construct, and to its end
@@ -331,7 +331,7 @@ pub leads_enclosed_node : (context : CompileContext) (old new : Emitter) (slot :
     (info : Bor Info) (steps_back : Bool) (scope : Scope) → listed step.tasks ≡ task.Close c ∷ task.Node info steps_back scope ∷ [] → step.slot ≡ inside →
     closed_by c (with_pat (layout_of context) context.unicode context.whole (node_pattern context info.now steps_back scope new.opened.items) inside (draft_of new.body))
     ≡ with_pat (layout_of context) context.unicode context.whole p slot (draft_of old.body) →
-    inside + slots_with (layout_of context) (node_pattern context info.now steps_back scope new.opened.items) ≡ slot + slots_with (layout_of context) p → new.opened.items ≡ old.opened.items → new.needs.items ≡ old.needs.items →
+    inside + slots_with (layout_of context) (node_pattern context info.now steps_back scope new.opened.items) ≡ slot + slots_with (layout_of context) p → new.opened.items ≡ old.opened.items → new.needs.list.items ≡ old.needs.list.items →
     ((all : List Need) → IsLetThrough context scope.may_keep (node_pattern context info.now steps_back scope new.opened.items) all → IsLetThrough context keeps p all) →
     extent (draft_of new.body) + (closing_room c + room_of context (node_pattern context info.now steps_back scope new.opened.items)) ≤ extent (draft_of old.body) + room_of context p →
     ((tree_context : TreeContext) → IsAnalyzed tree_context (infos_of context) → S tree_context → IsExpandedTask tree_context (task.Node info steps_back scope)) →
@@ -344,7 +344,7 @@ leads_enclosed_node context old new slot keeps p S step inside c info steps_back
       allowed = λ all among h. allowed all h.1.0;
       fits = omega (arith, fits);
       stands = λ tree_context s stand. (tt, (stands tree_context s stand, tt));
-      notes = same_noted (infos_of context) old.needs.items new.needs.items S needs;
+      notes = same_noted (infos_of context) old.needs.list.items new.needs.list.items S needs;
     }))
 
 -- the same of a body of which only the first way counts
@@ -352,7 +352,7 @@ pub leads_enclosed_body : (context : CompileContext) (old new : Emitter) (slot :
     (for_any : Bool) (body : Bor Expr) (info : Bor Info) (scope : Scope) → listed step.tasks ≡ task.Close c ∷ task.Body body for_any info scope ∷ [] → step.slot ≡ inside →
     closed_by c (with_pat (layout_of context) context.unicode context.whole (body_pattern context for_any body.now info.now scope new.opened.items) inside (draft_of new.body))
     ≡ with_pat (layout_of context) context.unicode context.whole p slot (draft_of old.body) →
-    inside + slots_with (layout_of context) (body_pattern context for_any body.now info.now scope new.opened.items) ≡ slot + slots_with (layout_of context) p → new.opened.items ≡ old.opened.items → new.needs.items ≡ old.needs.items →
+    inside + slots_with (layout_of context) (body_pattern context for_any body.now info.now scope new.opened.items) ≡ slot + slots_with (layout_of context) p → new.opened.items ≡ old.opened.items → new.needs.list.items ≡ old.needs.list.items →
     ((all : List Need) → IsLetThrough context scope.may_keep (body_pattern context for_any body.now info.now scope new.opened.items) all → IsLetThrough context keeps p all) →
     extent (draft_of new.body) + (closing_room c + room_of context (body_pattern context for_any body.now info.now scope new.opened.items)) ≤ extent (draft_of old.body) + room_of context p →
     ((tree_context : TreeContext) → IsAnalyzed tree_context (infos_of context) → S tree_context → IsExpandedTask tree_context (task.Body body for_any info scope)) →
@@ -365,7 +365,7 @@ leads_enclosed_body context old new slot keeps p S step inside c for_any body in
       allowed = λ all among h. allowed all h.1.0;
       fits = omega (arith, fits);
       stands = λ tree_context s stand. (tt, (stands tree_context s stand, tt));
-      notes = same_noted (infos_of context) old.needs.items new.needs.items S needs;
+      notes = same_noted (infos_of context) old.needs.list.items new.needs.list.items S needs;
     }))
 
 -- the same step, where a task in it has another name

@@ -273,7 +273,7 @@ leads_whole context e slot i scope first last S is begins ends =
       allowed = λ all among h. allowed_then (layout_of context) all context.unicode scope.may_keep us p h.1.0 h.0;
       fits = omega (arith, room_then (layout_of context) us p);
       stands = λ tree_context s stand. (ends tree_context stand, (begins tree_context stand, tt));
-      notes = none_noted (infos_of context) e.needs.items S;
+      notes = none_noted (infos_of context) e.needs.list.items S;
     })
 
 tail_row : (t : Trees) (us : List Written) → is_delegated false (tree.concat t) ≡ true → plain_row t us ≡ tail (tree.concat t) (cat_all us)
@@ -290,7 +290,7 @@ tail_room layout t us e = let rooms = ap (room_with layout) (tail_row t us e) in
 module _ (context : CompileContext) (old new : Emitter) (slot : ℕ) (parts : Bor (List Info)) (scope : Scope) (delegated : Arc Delegate Global) (begin : ℕ) (d : Draft)
     (h : IsDelegateOf context.unicode false (tree.concat (row_trees parts.now)) delegated.value) (shut : d ≡ closed_draft (draft_of old.body)) (at : begin ≡ length d.ops)
     (drew : draft_of new.body ≡ with_op (op_of (insn.DelegateTail delegated 0)) d) (long : extent (draft_of new.body) ≤ extent (draft_of old.body) + 1)
-    (opened : new.opened.items ≡ old.opened.items) (needs : new.needs.items ≡ old.needs.items) where
+    (opened : new.opened.items ≡ old.opened.items) (needs : new.needs.list.items ≡ old.needs.list.items) where
   same_tail : op_of (insn.DelegateTail delegated 0) ≡ op.tail (in_class context.unicode) (folded context.unicode) (tree.concat (row_trees parts.now)) 0
   same_tail = λ i. op.tail (in_class (h.unicode_is i)) (folded (h.unicode_is i)) (searched (h.for_any_is i) (h.part i)) 0
 
@@ -319,7 +319,7 @@ module _ (context : CompileContext) (old new : Emitter) (slot : ℕ) (parts : Bo
         allowed = λ all among k. (h.read, subst (λ q. IsLetThrough context scope.may_keep q all) now k.1.0);
         fits = (let rooms = ap (room_of context) now in omega (arith, long, rooms, room_tail layout t row));
         stands = λ tree_context s stand. (tt, (stand, tt));
-        notes = same_noted (infos_of context) old.needs.items new.needs.items S needs;
+        notes = same_noted (infos_of context) old.needs.list.items new.needs.list.items S needs;
       }))
 
 -- a plain end that is not delegated

@@ -31,5 +31,5 @@ pub record Appends {A : Type 0} (draft_after : Draft) (more : ℕ) (old new : Pr
 pub record Writes {A : Type 0} (context : CompileContext) (old new : Emitter) (result : Result A CompileError) (p : CorePattern) : Type 0 where
   pub cap : new.body.cap ≡ old.body.cap
   pub wrote : OnOk result ((slot : ℕ) → Wrote (layout_of context) context.unicode context.whole old new slot slot p)
-  pub needs : OnOk result (new.needs.items ≡ old.needs.items)
+  pub needs : OnOk result (new.needs.list.items ≡ old.needs.list.items)
   pub full : IfErr result (IsFull old.body (room_with (layout_of context) p))

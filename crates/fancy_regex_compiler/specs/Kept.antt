@@ -94,9 +94,9 @@ NeedStands context need tree_context = IsExpandedTarget tree_context need.may_ke
 
 -- Emitting a body that is needed, if calls of its group stay: it is let through, and more may be needed then.
 pub record MeetsNeed {A : Type 0} (context : CompileContext) (need : Need) (old new : Emitter) (result : Result A CompileError) : Type 0 where
-  pub allowed : IfOk result (λ _. (all : List Need) → AreAmong new.needs.items all → Stays context need.group → IsBodyLetThrough context need all)
+  pub allowed : IfOk result (λ _. (all : List Need) → AreAmong new.needs.list.items all → Stays context need.group → IsBodyLetThrough context need all)
   pub opened : IfOk result (λ _. new.opened.items ≡ old.opened.items)
-  pub notes : IfOk result (λ _. Notes (infos_of context) old.needs.items new.needs.items (NeedStands context need))
+  pub notes : IfOk result (λ _. Notes (infos_of context) old.needs.list.items new.needs.list.items (NeedStands context need))
   pub refused : IfErr result (IsReasonWhere context.unicode (infos_of context) (NeedStands context need))
 
 -- The body that is needed is written, if calls of its group stay, and those that were written stay.
@@ -136,9 +136,9 @@ WholeStands x tree_context = IsExpandedPart tree_context true true false x
 -- Writing the bodies that are needed behind the main program.
 pub record WritesBodies (context : CompileContext) (from : ℕ) (old new : Emitter) (result : Result Bodies CompileError) : Type 0 where
   pub bodies : IfOk result (HasBodies context (draft_of old.body).ops from (draft_of new.body))
-  pub met : IfOk result (λ bodies. (need : Need) → Contains new.needs.items need → IsMetUnder context bodies new.needs.items need)
-  pub needed : IfOk result (λ bodies. (b : Body) → Contains bodies.list.items b → IsNeededBody new.needs.items b)
-  pub among : IfOk result (λ _. AreAmong old.needs.items new.needs.items)
+  pub met : IfOk result (λ bodies. (need : Need) → Contains new.needs.list.items need → IsMetUnder context bodies new.needs.list.items need)
+  pub needed : IfOk result (λ bodies. (b : Body) → Contains bodies.list.items b → IsNeededBody new.needs.list.items b)
+  pub among : IfOk result (λ _. AreAmong old.needs.list.items new.needs.list.items)
 
 -- the layout of these places
 abbrev pub place_in : Option (Arc Callee Global) → Option Place

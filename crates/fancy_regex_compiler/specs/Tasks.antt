@@ -224,10 +224,10 @@ AreExpandedTasks tree_context (t ∷ ts) = IsExpandedTask tree_context t × AreE
 pub record Leads (context : CompileContext) (old new : Emitter) (slot after : ℕ) (left : List Task) (end : Progress) (Allowed : List Need → Type 0) (most : ℕ)
     (Stand : TreeContext → Type 0) : Type 0 where
   pub ends : past_all context left (progress new after) ≡ end
-  pub allowed : (all : List Need) → AreAmong new.needs.items all → AreAllowedTasks context left new.opened.items all → Allowed all
+  pub allowed : (all : List Need) → AreAmong new.needs.list.items all → AreAllowedTasks context left new.opened.items all → Allowed all
   pub fits : extent (draft_of new.body) + tasks_room context left new.opened.items ≤ extent (draft_of old.body) + most
   pub stands : (tree_context : TreeContext) → IsAnalyzed tree_context (infos_of context) → Stand tree_context → AreExpandedTasks tree_context left
-  pub notes : Notes (infos_of context) old.needs.items new.needs.items Stand
+  pub notes : Notes (infos_of context) old.needs.list.items new.needs.list.items Stand
 
 -- A step towards a pattern.
 abbrev pub LeadsTo : CompileContext → CorePattern → Bool → (TreeContext → Type 0) → Emitter → Emitter → ℕ → Step → Type 0
@@ -312,8 +312,8 @@ pub record EmitsAll (context : CompileContext) (p : CorePattern) (keeps : Bool) 
     (result : Result ℕ CompileError) : Type 0 where
   pub cap : new.body.cap ≡ old.body.cap
   pub wrote : IfOk result (λ after. Wrote (layout_of context) context.unicode context.whole old new slot after p)
-  pub allowed : IfOk result (λ after. (all : List Need) → AreAmong new.needs.items all → IsLetThrough context keeps p all)
-  pub notes : IfOk result (λ after. Notes (infos_of context) old.needs.items new.needs.items Stand)
+  pub allowed : IfOk result (λ after. (all : List Need) → AreAmong new.needs.list.items all → IsLetThrough context keeps p all)
+  pub notes : IfOk result (λ after. Notes (infos_of context) old.needs.list.items new.needs.list.items Stand)
   pub full : IfErr result (IsFull old.body (room_of context p))
   pub refused : IfErr result (IsReasonWhere context.unicode (infos_of context) Stand)
 

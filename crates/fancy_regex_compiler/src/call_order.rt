@@ -13,7 +13,8 @@ enum Visit {
     Leave(usize),
 }
 
-/// The groups, each after those that its body calls, as far as they do not call each other in a circle. The error is want of memory.
+/// The groups, each after those that its body calls where it is written, as far as they do not call each other in a circle. The error is
+/// want of memory.
 pub(crate) fn call_order<'i, 'e>(
     alloc: Global,
     groups: &Vec<&'i Info<'e>>,
@@ -46,11 +47,14 @@ fn first_visits(alloc: Global, count: usize) -> Result<Vec<Visit>, AllocError> {
     Ok(visits)
 }
 
-/// Enters the groups that the node calls. The error is want of memory.
+/// Enters the groups that the node calls: not those in definitions and in what is repeated no times, which are never written there. The
+/// error is want of memory.
 #[cycle(visits)]
 fn add_visits(info: &Info<'_>, visits: &mut Vec<Visit>) -> Result<(), AllocError> {
     match info.expr {
         Expr::SubroutineCall(group) => visits.push(Visit::Enter(*group))?,
+        Expr::DefineGroup { .. } => {}
+        Expr::Repeat { lo, hi, .. } if *lo == 0 && *hi == 0 => {}
         _ => add_visits_of_all(&info.children, visits)?,
     }
     Ok(())

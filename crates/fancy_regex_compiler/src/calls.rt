@@ -167,10 +167,10 @@ fn write_bodies<'i, 'e>(
     requires begins { (draft_of emitter.old.body).text ≡ [] }
     requires opened { emitter.old.opened.items ≡ [] }
     requires drafted { length context.now.drafts.now.items ≡ length context.now.groups.now.items }
-    requires of_groups { AreOfGroups (length (infos_of context.now)) emitter.old.needs.items }
+    requires of_groups { AreOfGroups (length (infos_of context.now)) emitter.old.needs.list.items }
     ensures wrote { WritesBodies context.now slot emitter.old emitter.new result }
     ensures refused { IfErr result (IsReasonWhere context.now.unicode (infos_of context.now)
-        (λ tree_context. AreStanding tree_context (infos_of context.now) emitter.old.needs.items)) }
+        (λ tree_context. AreStanding tree_context (infos_of context.now) emitter.old.needs.list.items)) }
 {
     let mut bodies = Bodies {
         list: Vec::new(context.alloc),
@@ -178,8 +178,8 @@ fn write_bodies<'i, 'e>(
         end: slot,
     };
     let mut done = 0;
-    while done < emitter.needs.len() {
-        let need = emitter.needs[done];
+    while done < emitter.needs.list.len() {
+        let need = emitter.needs.list[done];
         meet_need(context, emitter, &mut bodies, need)?;
         done += 1;
     }

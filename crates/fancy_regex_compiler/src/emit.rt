@@ -2,7 +2,6 @@
 //! function takes the first free slot and returns the next one; the errors are those of `compile`. What emitting gives is said once,
 //! in `specs/Tasks.antt`: `EmitsTask` for a task, `EmitsPattern` for a pattern, `Begins` for a construct.
 
-ghost use Rattle.std.specs.List.{Contains};
 ghost use Rattle.std.specs.Prelude.{◌≡◌, ◌<◌, ◌+◌, ℕ, List, [], ◌∷◌, ◌++◌, length, vec_len, false, true, slice_get, IfOk, IfErr, Some, None};
 ghost use Rattle.fancy_regex_meaning.specs.Ways.{is_at_call_limit as is_full_of};
 ghost use Rattle.fancy_regex_desugar.specs.CorePatterns as pat;
@@ -17,7 +16,7 @@ ghost use Rattle.fancy_regex_compiler.specs.Known.{info_call};
 ghost use Rattle.fancy_regex_program.specs.Machine.{unset};
 ghost use Rattle.fancy_regex_program.specs.Ops as op;
 ghost use Rattle.fancy_regex_program.specs.Ops.{op_of};
-ghost use Rattle.fancy_regex_compiler.specs.Needs.{AreAmong, Notes, IsNoted};
+ghost use Rattle.fancy_regex_compiler.specs.Needs.{AreAmong, Notes};
 ghost use Rattle.fancy_regex_compiler.specs.Refusals.{IsMemoryOrTooComplex, IsReasonWhere, IsExpandedPart, IsExpandedBody, IsExpandedRepeat, IsExpandedAbsent};
 ghost use Rattle.fancy_regex_compiler.specs.Refusals.{IsExpandedConditional, IsExpandedTarget, looks_behind};
 ghost use Rattle.fancy_regex_compiler.specs.Tasks.{listed, node_pattern, body_pattern, whole_pattern, LeadsOn, EmitsTask, EmitsPattern, Begins};
@@ -91,9 +90,9 @@ fn emit_all<'i, 'e>(
 ) -> Result<usize, CompileError>
     ensures cap { emitter.new.body.cap ≡ emitter.old.body.cap }
     ensures ends { IfOk result (λ after. progress emitter.new after ≡ past context.now begin.entry (progress emitter.old slot)) }
-    ensures allowed { IfOk result (λ after. (all : List TheNeed) → AreAmong emitter.new.needs.items all →
+    ensures allowed { IfOk result (λ after. (all : List TheNeed) → AreAmong emitter.new.needs.list.items all →
         IsAllowedTask context.now begin.entry emitter.old.opened.items all) }
-    ensures notes { IfOk result (λ after. Notes (infos_of context.now) emitter.old.needs.items emitter.new.needs.items
+    ensures notes { IfOk result (λ after. Notes (infos_of context.now) emitter.old.needs.list.items emitter.new.needs.list.items
         (λ tree_context. IsExpandedTask tree_context begin.entry)) }
     ensures full { IfErr result (IsFull emitter.old.body (task_room context.now begin.entry emitter.old.opened.items)) }
     ensures refused { IfErr result (IsReasonWhere context.now.unicode (infos_of context.now)
@@ -961,35 +960,9 @@ fn emit_kept_call<'i, 'e>(
         (λ tree_context. IsExpandedTarget tree_context need.may_keep need.may_be_absent (infos_of context.now) need.group) 1
         emitter.old emitter.new slot result }
 {
-    note_need(&mut emitter.needs, need)?;
+    emitter.needs.note(need)?;
     emitter.body.flush_and_push(Insn::Call(draft.clone()?))?;
     Ok(leads_to(slot, Tasks::Nothing))
-}
-
-/// Notes that a body is needed, unless it is noted already. The error is want of memory.
-fn note_need(needs: &mut Vec<Need>, need: Need) -> Result<(), AllocError>
-    ensures { IfOk result (λ _. IsNoted needs.old.items needs.new.items need) }
-{
-    if is_noted(needs, need) {
-        return Ok(());
-    }
-    needs.push(need)?;
-    Ok(())
-}
-
-/// Whether the body is noted.
-fn is_noted(needs: &[Need], need: Need) -> bool
-    ensures { result ≡ true → Contains needs.now need }
-{
-    for noted in needs {
-        if noted.group == need.group
-            && noted.may_keep == need.may_keep
-            && noted.may_be_absent == need.may_be_absent
-        {
-            return true;
-        }
-    }
-    false
 }
 
 /// Begins a call that is written out: the body of its target, or `Fail` where the target is inlined inside of itself as often as is

@@ -9,6 +9,7 @@ ghost use Rattle.fancy_regex_compiler.specs.Refusals.{IsMemoryOrTooComplex};
 use crate::called_texts::CalledTexts;
 use crate::class_table::ClassTable;
 use crate::inlined_groups::InlinedGroups;
+use crate::needs::Needs;
 use crate::part_table::PartTable;
 use crate::program_builder::ProgramBuilder;
 use fancy_regex_info::{CompileError, Info};
@@ -63,8 +64,8 @@ pub(crate) struct Emitter {
     pub parts: PartTable,
     /// The targets of the open calls, the innermost last.
     pub opened: Vec<usize>,
-    /// The bodies that are needed, each once, in the order in which they were met.
-    pub needs: Vec<Need>,
+    /// The bodies that are needed.
+    pub needs: Needs,
 }
 
 /// The context of a subexpression.

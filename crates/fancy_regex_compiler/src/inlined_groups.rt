@@ -167,8 +167,14 @@ fn room_of(info: &Info<'_>, rooms: &[Option<usize>]) -> Option<usize>
     match info.expr {
         Expr::Empty => Some(0),
         Expr::DefineGroup { .. } => Some(0),
-        Expr::SubroutineCall(group) => room_at(rooms, *group),
-        Expr::Concat(_) => room_of_all(&info.children, 0, rooms),
+        Expr::SubroutineCall(group) => {
+            let room = room_at(rooms, *group)?;
+            with_work(room, NODE_ROOM)
+        }
+        Expr::Concat(_) => {
+            let room = room_of_all(&info.children, 0, rooms)?;
+            with_work(room, info.children.len())
+        }
         Expr::Alt(_) => {
             let room = room_of_all(&info.children, BRANCH_ROOM, rooms)?;
             sum_of(room, NODE_ROOM)
@@ -238,6 +244,17 @@ fn room_of_leaf(expr: &Expr) -> Option<usize>
         Expr::KeepOut => Some(NODE_ROOM),
         _ => None,
     }
+}
+
+/// The room of what writes something, with so much more: so that to write out a call of a small group is little work, it counts there
+/// what writes nothing too, and how deep calls nest.
+fn with_work(room: usize, more: usize) -> Option<usize>
+    ensures { IfSome result (λ sum. room ≤ sum) }
+{
+    if room == 0 {
+        return Some(0);
+    }
+    sum_of(room, more)
 }
 
 /// The sum, if `usize` has it.

@@ -18,6 +18,7 @@ mod lazy;
 mod leaf;
 mod literal_table;
 mod main_program;
+mod needs;
 mod part_table;
 mod parts;
 mod program_builder;

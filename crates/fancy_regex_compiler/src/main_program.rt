@@ -18,6 +18,7 @@ ghost use Rattle.fancy_regex_compiler.specs.declared.emitter.Need.{Need as NeedO
 use crate::class_table::ClassTable;
 use crate::emit::{MAX_OPEN_CALLS_PER_GROUP, emit};
 use crate::emitter::{CompileContext, Emitter, Scope, first_slot};
+use crate::needs::Needs;
 use crate::part_table::PartTable;
 use crate::program_builder::ProgramBuilder;
 use fancy_regex_info::{CompileError, Info};
@@ -29,14 +30,14 @@ pub(crate) fn new_emitter(alloc: Global, cap: Option<usize>, opened: Vec<usize>)
     ensures cap { result.body.cap ≡ cap_of cap }
     ensures draft { draft_of result.body ≡ record { ops = []; text = [] } }
     ensures opened { result.opened.items ≡ opened.items }
-    ensures needs { result.needs.items ≡ [] }
+    ensures needs { result.needs.list.items ≡ [] }
 {
     Emitter {
         body: ProgramBuilder::new(alloc, cap),
         classes: ClassTable::new(alloc),
         parts: PartTable::new(alloc),
         opened,
-        needs: Vec::new(alloc),
+        needs: Needs::new(alloc),
     }
 }
 
@@ -52,9 +53,9 @@ pub(crate) fn write_main<'i, 'e>(
     ensures opened { IfOk result (λ _. emitter.new.opened.items ≡ []) }
     ensures cap { emitter.new.body.cap ≡ emitter.old.body.cap }
     ensures wrote { IfOk result (IsMain context.now (info_of info.now) anchored (draft_of emitter.new.body)) }
-    ensures allowed { IfOk result (λ _. (all : List NeedOf) → AreAmong emitter.new.needs.items all →
+    ensures allowed { IfOk result (λ _. (all : List NeedOf) → AreAmong emitter.new.needs.list.items all →
         IsLetThrough context.now true (pat_with (infos_of context.now) (info_of info.now)) all) }
-    ensures notes { IfOk result (λ _. Notes (infos_of context.now) emitter.old.needs.items emitter.new.needs.items
+    ensures notes { IfOk result (λ _. Notes (infos_of context.now) emitter.old.needs.list.items emitter.new.needs.list.items
         (WholeStands (info_of info.now))) }
     ensures full { IfErr result (λ e. is_too_complex e ≡ true →
         emitter.old.body.cap < room_of context.now (pat_with (infos_of context.now) (info_of info.now)) + 4) }

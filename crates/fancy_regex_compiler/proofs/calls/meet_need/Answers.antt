@@ -25,7 +25,7 @@ none_needed : {A : Type 0} (context : CompileContext) (need : Need) (emitter : E
 none_needed context need emitter a none = record {
   allowed = λ all among stays. stays_not context need none stays;
   opened = refl;
-  notes = none_noted (infos_of context) emitter.needs.items (NeedStands context need);
+  notes = none_noted (infos_of context) emitter.needs.list.items (NeedStands context need);
   refused = tt;
 }
 

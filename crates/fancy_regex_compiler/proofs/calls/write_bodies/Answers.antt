@@ -12,8 +12,8 @@ use Rattle.fancy_regex_compiler.proofs.calls.write_bodies.Goals as goal
 pub meet_need-requires-clause-group : goal.meet_need-requires-clause-group
 meet_need-requires-clause-group c =
     let context = c.args.context.now in
-    let start = c.args.emitter.now.needs.items in
-    let needs = c.loop-done.emitter.needs.items in
+    let start = c.args.emitter.now.needs.list.items in
+    let needs = c.loop-done.emitter.needs.list.items in
     let need = c.index-need.result.now in
     let inside : c.loop-done.done < length needs = omega arith in
     let at : slice_get needs c.loop-done.done ≡ Some need = slice_get_read needs _ c.loop-done.done need refl inside c.index-need.ensures in
@@ -24,8 +24,8 @@ meet_need-requires-clause-group c =
 pub returns-in_err-meet_need-clause-refused : goal.returns-in_err-meet_need-clause-refused
 returns-in_err-meet_need-clause-refused c =
     let context = c.args.context.now in
-    let start = c.args.emitter.now.needs.items in
-    let needs = c.loop-done.emitter.needs.items in
+    let start = c.args.emitter.now.needs.list.items in
+    let needs = c.loop-done.emitter.needs.list.items in
     let need = c.index-need.result.now in
     let inside : c.loop-done.done < length needs = omega arith in
     let at : slice_get needs c.loop-done.done ≡ Some need = slice_get_read needs _ c.loop-done.done need refl inside c.index-need.ensures in
@@ -38,9 +38,9 @@ returns-in_err-meet_need-clause-refused c =
 pub loop-done-preserved : goal.loop-done-preserved
 loop-done-preserved c =
     let context = c.args.context.now in
-    let start = c.args.emitter.now.needs.items in
-    let needs = c.loop-done.emitter.needs.items in
-    let new = c.meet_need.new.emitter.needs.items in
+    let start = c.args.emitter.now.needs.list.items in
+    let needs = c.loop-done.emitter.needs.list.items in
+    let new = c.meet_need.new.emitter.needs.list.items in
     let need = c.index-need.result.now in
     let inside : c.loop-done.done < length needs = omega arith in
     let at : slice_get needs c.loop-done.done ≡ Some need = slice_get_read needs _ c.loop-done.done need refl inside c.index-need.ensures in
@@ -58,8 +58,8 @@ loop-done-preserved c =
 pub returns-clause-wrote : goal.returns-clause-wrote
 returns-clause-wrote c =
     let context = c.args.context.now in
-    let start = c.args.emitter.now.needs.items in
-    let needs = c.loop-done.emitter.needs.items in
+    let start = c.args.emitter.now.needs.list.items in
+    let needs = c.loop-done.emitter.needs.list.items in
     let inv = c.loop-done.invariant in
     record {
       bodies = inv.bodies;

@@ -10,14 +10,14 @@ use Rattle.fancy_regex_compiler.proofs.calls.write_bodies.Given as goal
 
 abbrev pub invariant-loop-done : goal.invariant-loop-done
 invariant-loop-done l =
-    let start = l.fn.emitter.needs.items in
+    let start = l.fn.emitter.needs.list.items in
     record {
       bodies : HasBodies l.context (draft_of l.fn.emitter.body).ops l.slot (draft_of l.emitter.body) l.bodies;
       opened : l.emitter.opened.items ≡ [];
-      notes : Notes (infos_of l.context) start l.emitter.needs.items (λ tree_context. AreStanding tree_context (infos_of l.context) start);
-      met : (all : List Need) → AreAmong l.emitter.needs.items all → (i : ℕ) (n : Need) → i < l.done → slice_get l.emitter.needs.items i ≡ Some n →
+      notes : Notes (infos_of l.context) start l.emitter.needs.list.items (λ tree_context. AreStanding tree_context (infos_of l.context) start);
+      met : (all : List Need) → AreAmong l.emitter.needs.list.items all → (i : ℕ) (n : Need) → i < l.done → slice_get l.emitter.needs.list.items i ≡ Some n →
           IsMetUnder l.context l.bodies all n;
-      needed : (b : Body) → Contains l.bodies.list.items b → IsNeededBody l.emitter.needs.items b;
+      needed : (b : Body) → Contains l.bodies.list.items b → IsNeededBody l.emitter.needs.list.items b;
     }
 
 abbrev pub decreases-loop-done : goal.decreases-loop-done

@@ -15,7 +15,7 @@ returns-clause-kept c =
     let context = c.args.context.now in
     let x = info_of c.args.info.now in
     let wrote = c.in_ok-bodies.ensures.wrote in
-    let all = c.write_bodies.new.emitter.needs.items in
+    let all = c.write_bodies.new.emitter.needs.list.items in
     let table = table_of c.in_ok-places.places.of_groups.items in
     keeps_calls context x c.args.anchored c.in_ok-slot.slot (draft_of c.write_main.new.emitter.body) (draft_of c.write_bodies.new.emitter.body) (draft_of c.push_insn.new.self)
     c.in_ok-bodies.bodies all table c.in_ok-places.places.end c.in_ok-insns.insns.items c.requires.inlined c.requires.some c.requires.drafted
@@ -29,7 +29,7 @@ returns-clause-allowed c =
     let context = c.args.context.now in
     let x = info_of c.args.info.now in
     let wrote = c.in_ok-bodies.ensures.wrote in
-    let all = c.write_bodies.new.emitter.needs.items in
+    let all = c.write_bodies.new.emitter.needs.list.items in
     let table = table_of c.in_ok-places.places.of_groups.items in
     kept_allowed context x c.args.anchored c.in_ok-slot.slot (draft_of c.write_main.new.emitter.body) (draft_of c.write_bodies.new.emitter.body) (draft_of c.push_insn.new.self)
     c.in_ok-bodies.bodies all table c.in_ok-places.places.end c.in_ok-insns.insns.items c.requires.inlined c.requires.some c.requires.drafted
@@ -40,7 +40,7 @@ returns-clause-allowed c =
 
 pub write_bodies-requires-clause-of_groups : goal.write_bodies-requires-clause-of_groups
 write_bodies-requires-clause-of_groups c =
-    noted_groups (infos_of c.args.context.now) c.new_emitter-emitter.result.needs.items c.write_main.new.emitter.needs.items (WholeStands (info_of c.args.info.now))
+    noted_groups (infos_of c.args.context.now) c.new_emitter-emitter.result.needs.list.items c.write_main.new.emitter.needs.list.items (WholeStands (info_of c.args.info.now))
     c.new_emitter-emitter.ensures.needs c.in_ok-slot.ensures.notes
 
 pub returns-in_err-bodies-clause-refused : goal.returns-in_err-bodies-clause-refused
@@ -50,5 +50,5 @@ returns-in_err-bodies-clause-refused c =
     let r = c.from_residual-in_err-bodies in
     passed_on r.result c.in_err-bodies.field-0.0 (IsReasonWhere context.unicode (infos_of context) S) r.ensures.1
     (λ tree_context analyzed stand. c.in_err-bodies.ensures.refused tree_context analyzed
-    (noted_stand (infos_of context) c.new_emitter-emitter.result.needs.items c.write_main.new.emitter.needs.items S c.new_emitter-emitter.ensures.needs c.in_ok-slot.ensures.notes
+    (noted_stand (infos_of context) c.new_emitter-emitter.result.needs.list.items c.write_main.new.emitter.needs.list.items S c.new_emitter-emitter.ensures.needs c.in_ok-slot.ensures.notes
     tree_context analyzed stand))

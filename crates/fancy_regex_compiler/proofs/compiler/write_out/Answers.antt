@@ -20,7 +20,7 @@ returns-clause-wrote c =
 pub returns-clause-allowed : goal.returns-clause-allowed
 returns-clause-allowed c =
     let context = c.args.context.now in
-    let needs = c.write_main.new.emitter.needs.items in
+    let needs = c.write_main.new.emitter.needs.list.items in
     allowed_written_out (layout_of context) needs context.unicode true (pat_with (infos_of context) (info_of c.args.info.now))
     (none_stays (layout_of context) (none_drafted context c.requires)) (c.in_ok-slots.ensures.allowed needs (λ n h. h))
 

@@ -15,8 +15,8 @@ returns c p =
     let context = c.args.context.now in
     record {
       cap = c.in_ok-flush_and_push.ensures.cap;
-      leads = leads_kept_call context c.args.emitter.now c.flush_and_push.new.self c.note_need.new.needs c.args.slot c.args.need (draft_place c.args.draft.now) p c.leads_to.result
-          c.requires.stays c.requires.there c.in_ok-note_need.ensures c.leads_to.ensures
+      leads = leads_kept_call context c.args.emitter.now c.flush_and_push.new.self c.note.new.self c.args.slot c.args.need (draft_place c.args.draft.now) p c.leads_to.result
+          c.requires.stays c.requires.there c.in_ok-note.ensures c.leads_to.ensures
           (c.in_ok-flush_and_push.ensures.draft ∙ ap (λ v. added (op.call (place_of v)) (draft_of c.args.emitter.now.body)) c.in_ok-clone.ensures.cases) c.in_ok-flush_and_push.ensures.long;
       work = let this = ap (λ (s : Step). tasks_work (infos_of context) (listed s.tasks)) c.leads_to.ensures in omega (arith, this);
       full = tt;

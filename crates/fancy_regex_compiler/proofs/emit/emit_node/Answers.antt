@@ -303,7 +303,7 @@ returns-in_ok-emit_leaf-in_default c =
           leads_nothing c.args.context.now c.args.emitter.now c.emit_leaf.new.emitter c.args.slot c.args.scope.may_keep q (λ tree_context. IsExpandedPart tree_context c.args.scope.may_keep c.args.scope.may_be_absent false (info_of c.args.info.now)) c.leads_to-in_default.result
           c.leads_to-in_default.ensures wrote (took wrote)
           (λ all among. subst (λ p. IsLetThrough c.args.context.now c.args.scope.may_keep p all) (sym (front_leaf call i)) (e.allowed all call (out-Info i).start_group us))
-          (same_noted (infos_of c.args.context.now) c.args.emitter.now.needs.items c.emit_leaf.new.emitter.needs.items (λ tree_context. IsExpandedPart tree_context c.args.scope.may_keep c.args.scope.may_be_absent false (info_of c.args.info.now)) writes.needs);
+          (same_noted (infos_of c.args.context.now) c.args.emitter.now.needs.list.items c.emit_leaf.new.emitter.needs.list.items (λ tree_context. IsExpandedPart tree_context c.args.scope.may_keep c.args.scope.may_be_absent false (info_of c.args.info.now)) writes.needs);
       work = let this = ap (λ (s : Step). tasks_work (infos_of c.args.context.now) (listed s.tasks)) c.leads_to-in_default.ensures in
           omega (arith, this, least_work (infos_of c.args.context.now) c.args.scope c.args.info.now);
       full = tt;
@@ -320,7 +320,7 @@ returns-in-Empty c =
       leads =
           leads_nothing c.args.context.now c.args.emitter.now c.args.emitter.now c.args.slot c.args.scope.may_keep q (λ tree_context. IsExpandedPart tree_context c.args.scope.may_keep c.args.scope.may_be_absent false (info_of c.args.info.now)) c.leads_to.result c.leads_to.ensures
           (wrote_nothing (layout_of c.args.context.now) c.args.context.now.unicode c.args.context.now.whole c.args.emitter.now c.args.slot q is) (omega arith) (λ all among. subst (λ p. IsLetThrough c.args.context.now c.args.scope.may_keep p all) (sym is) tt)
-          (none_noted (infos_of c.args.context.now) c.args.emitter.now.needs.items (λ tree_context. IsExpandedPart tree_context c.args.scope.may_keep c.args.scope.may_be_absent false (info_of c.args.info.now)));
+          (none_noted (infos_of c.args.context.now) c.args.emitter.now.needs.list.items (λ tree_context. IsExpandedPart tree_context c.args.scope.may_keep c.args.scope.may_be_absent false (info_of c.args.info.now)));
       work =
           let this = ap (λ (s : Step). tasks_work (infos_of c.args.context.now) (listed s.tasks)) c.leads_to.ensures in
           omega (arith, this, least_work (infos_of c.args.context.now) c.args.scope c.args.info.now);
@@ -338,7 +338,7 @@ returns-in-DefineGroup c =
       leads =
           leads_nothing c.args.context.now c.args.emitter.now c.args.emitter.now c.args.slot c.args.scope.may_keep q (λ tree_context. IsExpandedPart tree_context c.args.scope.may_keep c.args.scope.may_be_absent false (info_of c.args.info.now)) c.leads_to-in-DefineGroup.result c.leads_to-in-DefineGroup.ensures
           (wrote_nothing (layout_of c.args.context.now) c.args.context.now.unicode c.args.context.now.whole c.args.emitter.now c.args.slot q is) (omega arith) (λ all among. subst (λ p. IsLetThrough c.args.context.now c.args.scope.may_keep p all) (sym is) tt)
-          (none_noted (infos_of c.args.context.now) c.args.emitter.now.needs.items (λ tree_context. IsExpandedPart tree_context c.args.scope.may_keep c.args.scope.may_be_absent false (info_of c.args.info.now)));
+          (none_noted (infos_of c.args.context.now) c.args.emitter.now.needs.list.items (λ tree_context. IsExpandedPart tree_context c.args.scope.may_keep c.args.scope.may_be_absent false (info_of c.args.info.now)));
       work =
           let this = ap (λ (s : Step). tasks_work (infos_of c.args.context.now) (listed s.tasks)) c.leads_to-in-DefineGroup.ensures in
           omega (arith, this, least_work (infos_of c.args.context.now) c.args.scope c.args.info.now);

@@ -34,7 +34,7 @@ returns-then-hi-eq0 c context =
           (λ tree_context. IsExpandedRepeat tree_context c.args.scope.may_keep c.args.scope.may_be_absent c.args.bounds.0 c.args.bounds.1 (info_of c.args.child.now))
           c.leads_to.result c.leads_to.ensures
           (wrote_nothing (layout_of context) context.unicode context.whole old c.args.slot q is) (omega arith) (λ all among. subst (λ x. IsLetThrough context c.args.scope.may_keep x all) (sym is) tt)
-          (none_noted (infos_of context) old.needs.items
+          (none_noted (infos_of context) old.needs.list.items
           (λ tree_context. IsExpandedRepeat tree_context c.args.scope.may_keep c.args.scope.may_be_absent c.args.bounds.0 c.args.bounds.1 (info_of c.args.child.now)));
       work = let this = ap (λ (s : Step). tasks_work (infos_of context) (listed s.tasks)) c.leads_to.ensures in omega (arith, this);
       full = tt;

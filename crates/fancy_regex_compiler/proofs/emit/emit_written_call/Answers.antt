@@ -42,7 +42,7 @@ returns-then-writes_nothing c =
       leads =
           leads_nothing context old old c.args.slot scope.may_keep p S c.leads_to.result c.leads_to.ensures
           (wrote_silent (layout_of context) context.unicode context.whole old c.args.slot p silent) (omega arith)
-          (λ all among. allowed_silent (layout_of context) all context.unicode scope.may_keep p silent) (none_noted groups old.needs.items S);
+          (λ all among. allowed_silent (layout_of context) all context.unicode scope.may_keep p silent) (none_noted groups old.needs.list.items S);
       work = let this = ap (λ (s : Step). tasks_work groups (listed s.tasks)) c.leads_to.ensures in omega (arith, this);
       full = tt;
       refused = tt;

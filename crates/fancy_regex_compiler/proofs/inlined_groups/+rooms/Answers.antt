@@ -1,8 +1,9 @@
-use Rattle.std.proofs.Common.{◌+◌, ◌++◌, [], ◌∷◌, take, sym, ap, ◌∙◌, arith}
+use Rattle.std.proofs.Common.{◌+◌, ◌++◌, [], ◌∷◌, Some, take, sym, ap, ◌∙◌, arith}
 use Rattle.std.proofs.lemmas.List.{take_more}
 use Rattle.fancy_regex_tree.specs.Tree.{tree_of}
+use Rattle.fancy_regex_compiler.specs.Inlined.{node_front}
 use Rattle.fancy_regex_compiler.proofs.CalledTextLemmas.{some_weaker}
-use Rattle.fancy_regex_compiler.proofs.InlinedRooms.{takes_nothing, takes_call, takes_row, takes_branches, takes_group, takes_atomic, takes_look, takes_repeat, takes_never, takes_leaf, takes_more}
+use Rattle.fancy_regex_compiler.proofs.InlinedRooms.{takes_nothing, takes_call, takes_row, takes_branches, takes_group, takes_atomic, takes_look, takes_repeat, takes_never, takes_leaf, takes_more, takes_work}
 use Rattle.fancy_regex_compiler.proofs.NodeLemmas.{front_empty, front_define}
 use Rattle.fancy_regex_compiler.proofs.TreeLemmas.{tree_call, tree_empty}
 use Rattle.fancy_regex_compiler.proofs.inlined_groups.+rooms.Goals as goal
@@ -15,14 +16,18 @@ pub room_of-returns-in-DefineGroup : goal.room_of-returns-in-DefineGroup
 room_of-returns-in-DefineGroup t c =
     takes_nothing c.args.rooms.now c.args.info.now (λ call. front_define call c.args.info.now c.in-DefineGroup.definitions c.in-DefineGroup.is)
 
-pub room_of-returns-in-SubroutineCall : goal.room_of-returns-in-SubroutineCall
-room_of-returns-in-SubroutineCall t c =
-    takes_call c.args.rooms.now c.args.info.now c.in-SubroutineCall.group c.room_at.result (ap tree_of c.in-SubroutineCall.is ∙ tree_call c.in-SubroutineCall.group) (sym c.room_at.ensures)
+pub room_of-returns-in_ok-room-in-SubroutineCall : goal.room_of-returns-in_ok-room-in-SubroutineCall
+room_of-returns-in_ok-room-in-SubroutineCall t c =
+    let r = c.in_ok-room-in-SubroutineCall in
+    let takes = takes_call c.args.rooms.now c.args.info.now c.in-SubroutineCall.group (Some r.room) (ap tree_of c.in-SubroutineCall.is ∙ tree_call c.in-SubroutineCall.group)
+    (sym c.room_at.ensures ∙ r.was) in
+    some_weaker c.with_work.result (λ n le. takes_work c.args.rooms.now (node_front c.args.info.now) r.room n le takes) c.with_work.ensures
 
-pub room_of-returns-in-Concat : goal.room_of-returns-in-Concat
-room_of-returns-in-Concat t c =
-    some_weaker c.room_of_all.result
-    (λ n h. takes_row c.args.rooms.now c.args.info.now c.in-Concat.field-0 n c.deref.result.now c.in-Concat.is c.deref.ensures.value h) c.room_of_all.ensures
+pub room_of-returns-in_ok-room-in-Concat : goal.room_of-returns-in_ok-room-in-Concat
+room_of-returns-in_ok-room-in-Concat t c =
+    let r = c.in_ok-room-in-Concat in
+    let takes = takes_row c.args.rooms.now c.args.info.now c.in-Concat.field-0 r.room c.deref.result.now c.in-Concat.is c.deref.ensures.value r.ensures in
+    some_weaker c.with_work-in-Concat.result (λ n le. takes_work c.args.rooms.now (node_front c.args.info.now) r.room n le takes) c.with_work-in-Concat.ensures
 
 pub room_of-returns-then-hi-eq0 : goal.room_of-returns-then-hi-eq0
 room_of-returns-then-hi-eq0 t c =

@@ -31,7 +31,7 @@ returns-clause-writes c =
         wrote = λ slot. wrote_keep_out (layout_of c.args.context.now) u w old c.if-context.emitter slot
             (ap (λ e. draft_of e.body) z.emitter-is ∙ z.in_ok-flush_and_push.ensures.draft ∙ ap (λ b. cond b (added (op.save 0) d) (closed_draft d)) (sym z.if-context.true))
             (ap (λ e. e.opened.items) z.emitter-is);
-        needs = ap (λ e. e.needs.items) z.emitter-is;
+        needs = ap (λ e. e.needs.list.items) z.emitter-is;
         full = tt;
       }
       | else-context+in_ok-flush z ↦ record {
@@ -39,7 +39,7 @@ returns-clause-writes c =
         wrote = λ slot. wrote_keep_out (layout_of c.args.context.now) u w old c.if-context.emitter slot
             (ap (λ e. draft_of e.body) z.emitter-is ∙ z.in_ok-flush.ensures.draft ∙ ap (λ b. cond b (added (op.save 0) d) (closed_draft d)) (sym z.if-context.false))
             (ap (λ e. e.opened.items) z.emitter-is);
-        needs = ap (λ e. e.needs.items) z.emitter-is;
+        needs = ap (λ e. e.needs.list.items) z.emitter-is;
         full = tt;
       }
     ]

@@ -41,7 +41,7 @@ returns-clause-writes c =
                 (ap (λ e. draft_of e.body) z.emitter-is ∙ z.in_ok-flush_and_push.ensures.draft ∙ sym (is.draft layout w (λ _. fail) 0 slot [] d)
                 ∙ ap (λ b. with_pat layout u w (read (literal first b)) slot d) (sym z.if-casei.true))
                 (ap (λ e. e.opened.items) z.emitter-is);
-            needs = ap (λ e. e.needs.items) z.emitter-is;
+            needs = ap (λ e. e.needs.list.items) z.emitter-is;
             full = tt;
           }
       | else-casei+in_ok-push_literal_char z ↦ record {
@@ -50,7 +50,7 @@ returns-clause-writes c =
             (ap (λ e. draft_of e.body) z.emitter-is ∙ z.in_ok-push_literal_char.ensures.draft ∙ sym (pat_wait layout u w first slot d)
             ∙ ap (λ b. with_pat layout u w (read (literal first b)) slot d) (sym z.if-casei.false))
             (ap (λ e. e.opened.items) z.emitter-is);
-        needs = ap (λ e. e.needs.items) z.emitter-is;
+        needs = ap (λ e. e.needs.list.items) z.emitter-is;
         full = tt;
       }
     ]
