@@ -388,8 +388,8 @@ impl Easy {
         }
     }
 
-    /// Searches for the span as `find_span_in` does, by the characters that each match needs as far as the table tells. The error is want of
-    /// memory.
+    /// Searches for the span as `find_span_in` does, by the characters that each match needs as far as the table tells. The error is want
+    /// of memory.
     // Not inlined: so the other search keeps its values in registers.
     #[inline(never)]
     fn find_by_needed(

@@ -71,7 +71,8 @@ fn fresh_number(rows: &Rows, before: Sort) -> Option<usize>
 
 /// The cell of this row and column, if it was made.
 fn made_cell(cells: &[Vec<Cell>], number: Option<usize>, column: usize) -> Cell
-    ensures { (parts : Parts) (columns : List ColumnValue) (rows : List RowValue) (before : SortValue) → AreRightRows parts columns rows cells.now
+    ensures { (parts : Parts) (columns : List ColumnValue) (rows : List RowValue) (before : SortValue)
+        → AreRightRows parts columns rows cells.now
         → IfSome number (λ fresh. slice_get rows fresh ≡ Some (Fresh before)) → (it : ColumnValue) → slice_get columns column ≡ Some it
         → IsRight parts rows (Fresh before) it.sort it.sample result }
 {

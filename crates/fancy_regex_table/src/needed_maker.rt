@@ -166,7 +166,8 @@ fn begins_in(begins: &[Option<u32>], class: usize, rows: &[u32]) -> bool
 /// Whether searches that begin after an ASCII character, or at the start of the text, are in one of these rows.
 fn all_begin(places: &CellPlaces, rows: &[u32]) -> bool
     ensures first { result ≡ true → HasBegin places.now.begins.now rows.now 0 }
-    ensures ascii { result ≡ true → (c : ℕ) → c < 128 → HasBegin places.now.begins.now rows.now (slice_index_or places.now.classes.now c 0) }
+    ensures ascii { result ≡ true → (c : ℕ) → c < 128
+        → HasBegin places.now.begins.now rows.now (slice_index_or places.now.classes.now c 0) }
 {
     for code in 0..128 {
         if !begins_in(places.begins, places.classes[code] as usize, rows) {
