@@ -6,8 +6,8 @@ use lib.Count.{count_trailing_zeros}
 use Rattle.std.proofs.lemmas.Bool.{ltb-true, ltb-false, cases_lt, false≢true}
 use Rattle.std.proofs.lemmas.List.Sums.{prefix_len_passes, prefix_len-le-length}
 use Rattle.std.proofs.lemmas.Simd.{trailing_mask_l, get_or-chunk, length-chunk, length-zip2, get_or-zip2}
-use Rattle.fancy_regex_stops.specs.Gaps.{is_zero, is_more, lesser, greater, limit_gap, gap_in, pair_gap, wrapped}
-use Rattle.fancy_regex_stops.specs.Stops.{Covers, CoversShort, IsMarked, IsShort, IsPairAt, IsBeforeMarked}
+use Rattle.fancy_regex_stops.specs.Gaps.{is_zero, is_more, lesser, greater, limit_gap, gap_of, gap_in, pair_gap, wrapped}
+use Rattle.fancy_regex_stops.specs.Stops.{Covers, CoversShort, IsMarked, IsShort, IsPairAt, IsBeforeMarked, IsSingle}
 use Rattle.fancy_regex_stops.specs.declared.stops.Stops.{Stops}
 
 -- a choice of each lane by a comparison
@@ -53,6 +53,31 @@ limit_more limit c byte more = by_cases (ltb c limit) refl more where
   by_cases : (t : Bool) → ltb c limit ≡ t → 0 < wrapped limit (cond t c limit) → c < limit
   by_cases true e m = ltb-true c limit e
   by_cases false e m = absurd (omega (arith, byte, m))
+
+lesser_self : (a : ℕ) → lesser a a ≡ a
+lesser_self a = by_cases (ltb a a) where
+  by_cases : (t : Bool) → cond t a a ≡ a
+  by_cases true = refl
+  by_cases false = refl
+
+-- the lesser of two, and again of one of them
+lesser_again : (a b : ℕ) → lesser (lesser a b) b ≡ lesser a b
+lesser_again a b = by_cases (ltb a b) refl where
+  by_cases : (t : Bool) → ltb a b ≡ t → lesser (cond t a b) b ≡ cond t a b
+  by_cases true e = ap (λ u. cond u a b) e
+  by_cases false e = lesser_self b
+
+-- the gap where the three ranges are one
+pub single_gap : (stops : Stops) → IsSingle stops → (c : ℕ) → lesser (limit_gap stops.limit c) (gap_of stops.first c) ≡ gap_in stops c
+single_gap stops single c =
+    let least : ℕ = limit_gap stops.limit c in
+    let gap : ℕ = gap_of stops.first c in
+    let twice : lesser (lesser least gap) gap ≡ lesser least gap = lesser_again least gap in
+    sym (
+    ap₂ (λ (a b : ℕ). lesser (lesser (lesser least gap) a) b) (ap (λ range. gap_of range c) single.0) (ap (λ range. gap_of range c) single.1)
+    ∙ ap (λ (a : ℕ). lesser a gap) twice
+    ∙ twice
+    )
 
 -- a byte with a gap is passed over
 pub mark_says : (stops : Stops) (marks : List Bool) (wide : Bool) → Covers stops marks wide → (c : ℕ) → 0 < gap_in stops c → IsMarked marks wide c
@@ -124,6 +149,12 @@ more_in_loads f bytes at gaps r room is counted =
 pub and_on : (P : ℕ → Type 0) (from at to : ℕ) → ((i : ℕ) → from ≤ i → i < at → P i) → ((i : ℕ) → at ≤ i → i < to → P i) → (i : ℕ) → from ≤ i → i < to → P i
 and_on P from at to below here i low high =
     ⊎_elim (λ (less : i < at). below i low less) (λ (over : at ≤ i). here i over high) (cases_lt i at)
+
+-- one block more of bytes with a gap
+pub block_more : (f : ℕ → ℕ) (bytes : List ℕ) (from at : ℕ) (gaps : List ℕ) (r : ℕ) → at + 16 ≤ length bytes → gaps ≡ map f (chunk at 16 bytes) → r ≡ prefix_len is_more gaps
+    → ((i : ℕ) → from ≤ i → i < at → 0 < f (slice_index_or bytes i 0)) → (i : ℕ) → from ≤ i → i < at + r → 0 < f (slice_index_or bytes i 0)
+block_more f bytes from at gaps r room is counted below =
+    and_on (λ (i : ℕ). 0 < f (slice_index_or bytes i 0)) from at (at + r) below (more_in_load f bytes at gaps r room is counted).1
 
 -- a pair with a gap is passed over
 pub pair_says : (stops others : Stops) (marks : List Bool) (wide : Bool) (other_marks : List Bool) (bytes : List ℕ) (i : ℕ) → Covers stops marks wide

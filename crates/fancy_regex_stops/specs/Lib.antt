@@ -1,2 +1,3 @@
 pub mod Gaps
+pub mod StopLanes
 pub mod Stops

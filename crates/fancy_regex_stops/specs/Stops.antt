@@ -3,6 +3,10 @@ use Rattle.std.specs.Prelude.{◌≡◌, ◌<◌, ◌≤◌, ◌+◌, ◌⊎◌,
 use Rattle.fancy_regex_stops.specs.Gaps.{gap_in}
 use Rattle.fancy_regex_stops.specs.declared.stops.Stops.{Stops}
 
+-- the three ranges are one
+abbrev pub IsSingle : Stops → Type 0
+IsSingle stops = (stops.second ≡ stops.first) × (stops.third ≡ stops.first)
+
 -- each ASCII character that has a gap is marked
 abbrev pub AreCovered : Stops → List Bool → Type 0
 AreCovered stops marks = (c : ℕ) → c < 128 → 0 < gap_in stops c → slice_index_or marks c false ≡ true

@@ -1,6 +1,6 @@
 //! Vectors of sixteen bytes, lane by lane.
 
-ghost use Rattle.std.specs.Prelude.{◌≡◌, ◌≤◌, ◌+◌, length, map, replicate};
+ghost use Rattle.std.specs.Prelude.{◌≡◌, ◌≤◌, ◌+◌, false, length, map, replicate};
 ghost use Rattle.std.specs.List.{prefix_len};
 ghost use Rattle.std.specs.Simd.Lanes.{zip2, chunk, mask_l};
 ghost use Rattle.fancy_regex_stops.specs.Gaps.{wrapped, lesser, greater, is_zero, is_more};
@@ -60,10 +60,19 @@ fn zeros_of(lanes: u8x16) -> u64
     lanes.simd_eq(u8x16::splat(0)).to_bitmask()
 }
 
+/// Whether a lane is 0.
+#[inline(always)]
+pub fn has_zero(lanes: u8x16) -> bool
+    ensures { result ≡ false → prefix_len is_more lanes ≡ 16 }
+{
+    zeros_of(lanes) > 0
+}
+
 /// How many lanes come before the first that is 0.
 #[inline(always)]
 pub fn lanes_to_zero(lanes: u8x16) -> usize
-    ensures { result ≡ prefix_len is_more lanes }
+    ensures count { result ≡ prefix_len is_more lanes }
+    ensures most { result ≤ 16 }
 {
     let zeros = zeros_of(lanes);
     if zeros == 0 {

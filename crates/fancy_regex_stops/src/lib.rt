@@ -3,6 +3,7 @@
 
 mod byte_range;
 mod lanes;
+mod stop_lanes;
 mod stops;
 
 pub use stops::Stops;

@@ -1,13 +1,12 @@
 //! The bytes at which a search for a start may stop.
 
-ghost use Rattle.std.specs.Prelude.{◌≡◌, ◌≤◌, ◌<◌, ◌+◌, ℕ, List, Bool, true, false, IfSome, length, map, slice_index_or};
-ghost use Rattle.std.specs.Simd.Lanes.{zip2};
-ghost use Rattle.fancy_regex_stops.specs.Gaps.{gap_in, pair_gap};
-ghost use Rattle.fancy_regex_stops.specs.Stops.{Covers, CoversShort, AreCovered, IsMarkedAt, IsShortAt, IsPairAt};
+ghost use Rattle.std.specs.Prelude.{◌≡◌, ◌≤◌, ◌<◌, ℕ, List, Bool, true, false, IfSome, length, slice_index_or};
+ghost use Rattle.fancy_regex_stops.specs.Gaps.{gap_in};
+ghost use Rattle.fancy_regex_stops.specs.Stops.{Covers, CoversShort, AreCovered, IsMarkedAt, IsShortAt, IsPairAt, IsSingle};
 
-use crate::byte_range::{ByteRange, gap_below, gaps_below};
-use crate::lanes::{LANES, greatest, lanes_to_zero, least, load};
-use std::simd::u8x16;
+use crate::byte_range::{ByteRange, gap_below};
+use crate::lanes::{LANES, all, has_zero, lanes_to_zero, load};
+use crate::stop_lanes::{RangeLanes, StopLanes, single_gaps};
 
 /// The least byte that is not ASCII.
 const FIRST_WIDE: u8 = 128;
@@ -21,11 +20,11 @@ const NO_BYTE: u8 = 255;
 /// Three ranges that have all ASCII characters at which a search stops, and the first of the other bytes at which it does.
 #[derive(Clone, Copy)]
 pub struct Stops {
-    first: ByteRange,
-    second: ByteRange,
-    third: ByteRange,
+    pub(crate) first: ByteRange,
+    pub(crate) second: ByteRange,
+    pub(crate) third: ByteRange,
     /// The least of the other bytes that stop the search; where none does, one that no text has.
-    limit: u8,
+    pub(crate) limit: u8,
 }
 
 impl Stops {
@@ -72,13 +71,57 @@ impl Stops {
         ensures short { (marks : List Bool) (short : Bool) → CoversShort self.now marks short
             → (i : ℕ) → from ≤ i → i < result → IsShortAt bytes.now marks short i }
     {
+        if self.is_single() {
+            self.until_single(bytes, from)
+        } else {
+            self.until_any(bytes, from)
+        }
+    }
+
+    /// Whether the three ranges are one.
+    fn is_single(&self) -> bool
+        ensures { result ≡ true → IsSingle self.now }
+    {
+        self.second == self.first && self.third == self.first
+    }
+
+    /// The first byte offset from `from` on of a byte that has no gap, or one from which on fewer than sixteen are left, where the three
+    /// ranges are one.
+    #[inline(always)]
+    fn until_single(&self, bytes: &[u8], from: usize) -> usize
+        requires single { IsSingle self.now }
+        requires from { from ≤ length bytes.now }
+        ensures range { (from ≤ result) × (result ≤ length bytes.now) }
+        ensures passed { (i : ℕ) → from ≤ i → i < result → 0 < gap_in self.now (slice_index_or bytes.now i 0) }
+    {
+        let limit = all(self.limit);
+        let range = RangeLanes::of(self.first);
         let mut at = from;
         'blocks: while bytes.len() - at >= LANES {
-            let passed = self.passed_at(bytes, at);
-            at += passed;
-            if passed < LANES {
-                return at;
+            let gaps = single_gaps(limit, range, load(bytes, at));
+            if has_zero(gaps) {
+                return at + lanes_to_zero(gaps);
             }
+            at += LANES;
+        }
+        at
+    }
+
+    /// The same, whatever the ranges.
+    #[inline(always)]
+    fn until_any(&self, bytes: &[u8], from: usize) -> usize
+        requires { from ≤ length bytes.now }
+        ensures range { (from ≤ result) × (result ≤ length bytes.now) }
+        ensures passed { (i : ℕ) → from ≤ i → i < result → 0 < gap_in self.now (slice_index_or bytes.now i 0) }
+    {
+        let stops = StopLanes::of(self);
+        let mut at = from;
+        'blocks: while bytes.len() - at >= LANES {
+            let gaps = stops.gaps(load(bytes, at));
+            if has_zero(gaps) {
+                return at + lanes_to_zero(gaps);
+            }
+            at += LANES;
         }
         at
     }
@@ -92,40 +135,17 @@ impl Stops {
         ensures passed { (marks others : List Bool) (wide : Bool) → Covers self.now marks wide → Covers second.now others false
             → (i : ℕ) → from ≤ i → i < result → IsPairAt bytes.now marks wide others i }
     {
+        let stops = StopLanes::of(self);
+        let seconds = StopLanes::of(second);
         let mut at = from;
         'blocks: while bytes.len() - at > LANES {
-            let passed = self.pairs_at(second, bytes, at);
+            let passed = stops.pairs_at(seconds, bytes, at);
             at += passed;
             if passed < LANES {
                 return at;
             }
         }
         at
-    }
-
-    /// How many of the sixteen bytes from `at` on come before one at which the search stops.
-    #[inline(always)]
-    fn passed_at(&self, bytes: &[u8], at: usize) -> usize
-        requires { at + 16 ≤ length bytes.now }
-        ensures most { result ≤ 16 }
-        ensures passed { (i : ℕ) → at ≤ i → i < at + result → 0 < gap_in self.now (slice_index_or bytes.now i 0) }
-    {
-        lanes_to_zero(self.gaps(load(bytes, at)))
-    }
-
-    /// The same, where the bytes after them are tested too, if the search stops at one of the sixteen.
-    #[inline(always)]
-    fn pairs_at(&self, second: &Stops, bytes: &[u8], at: usize) -> usize
-        requires { at + 17 ≤ length bytes.now }
-        ensures most { result ≤ 16 }
-        ensures passed { (i : ℕ) → at ≤ i → i < at + result
-            → 0 < pair_gap self.now second.now (slice_index_or bytes.now i 0) (slice_index_or bytes.now (i + 1) 0) }
-    {
-        let passed = self.passed_at(bytes, at);
-        if passed >= LANES {
-            return LANES;
-        }
-        lanes_to_zero(self.pair_gaps(second, load(bytes, at), load(bytes, at + 1)))
     }
 
     /// 0 for a byte of one of the ranges, and from the limit on.
@@ -136,26 +156,6 @@ impl Stops {
         let first = below.min(self.first.gap(byte));
         let second = first.min(self.second.gap(byte));
         second.min(self.third.gap(byte))
-    }
-
-    /// The same for each lane.
-    #[inline(always)]
-    fn gaps(&self, lanes: u8x16) -> u8x16
-        ensures { result ≡ map (gap_in self.now) lanes }
-    {
-        let below = gaps_below(self.limit, lanes);
-        let first = least(below, self.first.gaps(lanes));
-        let second = least(first, self.second.gaps(lanes));
-        least(second, self.third.gaps(lanes))
-    }
-
-    /// 0 from the limit on, and where both bytes have no gap.
-    #[inline(always)]
-    fn pair_gaps(&self, second: &Stops, lanes: u8x16, nexts: u8x16) -> u8x16
-        ensures { result ≡ zip2 (pair_gap self.now second.now) lanes nexts }
-    {
-        let either = greatest(self.gaps(lanes), second.gaps(nexts));
-        least(gaps_below(self.limit, lanes), either)
     }
 
     /// Whether each ASCII character that is not marked is in one of the ranges.

@@ -12,7 +12,10 @@ passed c =
     let is = c.pairs_at-passed.ensures in
     and_on (λ (i : ℕ). (i + 1 < length c.args.bytes.now) × (0 < pair_gap c.args.self.now c.args.second.now (slice_index_or c.args.bytes.now i 0) (slice_index_or c.args.bytes.now (i + 1) 0)))
     c.args.from at (at + c.pairs_at-passed.result) c.blocks-2.invariant.passed
-    (λ i low high. (omega (arith, high, is.most, c.blocks-2-test.true, c.blocks-2.invariant.range), is.passed i low high))
+    (λ i low high. (
+      omega (arith, high, is.most, c.blocks-2-test.true, c.blocks-2.invariant.range),
+      is.passed c.args.self.now c.args.second.now c.blocks-2.invariant.numbers.0 c.blocks-2.invariant.numbers.1 i low high,
+    ))
 
 pub returns-then-passed-lt-LANES-clause-passed : goal.returns-then-passed-lt-LANES-clause-passed
 returns-then-passed-lt-LANES-clause-passed c marks others wide covers covers_others i low high =
@@ -23,6 +26,7 @@ pub blocks-2-preserved : goal.blocks-2-preserved
 blocks-2-preserved c = record {
   range = (omega (arith, c.blocks-2.invariant.range), omega (arith, c.pairs_at-passed.ensures.most, c.blocks-2-test.true, c.blocks-2.invariant.range));
   passed = passed (goal.at.blocks-2-preserved c).After-pairs_at-passed;
+  numbers = c.blocks-2.invariant.numbers;
 }
 
 pub returns-clause-passed : goal.returns-clause-passed
