@@ -11,11 +11,11 @@ use Rattle.fancy_regex_info.specs.AnalysisRelations.{AreCallSizes, mark_at}
 use Rattle.fancy_regex_info.specs.Views.{size_at}
 use Rattle.fancy_regex_info.specs.declared.size.Size as code
 
-abbrev or_calls : Option Tree → List ℕ
+abbrev pub or_calls : Option Tree → List ℕ
 or_calls None = []
 or_calls (Some body) = calls_in body
 
-follow : (ts : List Tree) (k : ℕ) → following (map calls_in ts) k ≡ or_calls (slice_get ts k)
+pub follow : (ts : List Tree) (k : ℕ) → following (map calls_in ts) k ≡ or_calls (slice_get ts k)
 follow [] k = refl
 follow (t ∷ ts) zero = refl
 follow (t ∷ ts) (suc k) = follow ts k

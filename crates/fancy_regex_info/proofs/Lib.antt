@@ -9,5 +9,6 @@ pub mod AnalyzeNodeLemmas
 pub mod TreeLemmas
 pub mod TableLemmas
 pub mod CallSizeLemmas
+pub mod SameSizeLemmas
 pub mod ReferencedGroupLemmas
 pub mod AnalyzeTreeLemmas

@@ -1,5 +1,5 @@
 -- Tables of what is known of each group, and how they are made in iterations.
-use Rattle.std.proofs.Common.{◌≡◌, ℕ, zero, suc, ◌+◌, ◌-◌, ◌<◌, ◌≤◌, ⊎_elim, Bool, false, List, [], ◌∷◌, ◌++◌, Some, None}
+use Rattle.std.proofs.Common.{◌≡◌, ℕ, zero, suc, ◌+◌, ◌-◌, ◌<◌, ◌≤◌, ⊎_elim, Bool, true, false, List, [], ◌∷◌, ◌++◌, Some, None}
 use Rattle.std.proofs.Common.{map, length, get_or, replicate, Vec, Global, Bor, refl, sym, ap, ap₂, ◌∙◌, arith}
 use Rattle.std.proofs.Math.Path.{fun_ext}
 use Rattle.std.proofs.lemmas.Bool.{cases_lt}
@@ -85,21 +85,30 @@ no_body (g ∷ gs) zero h = absurd (omega arith)
 no_body (g ∷ gs) (suc k) h = no_body gs k (omega arith)
 
 -- one size more
-pub sizes_more : (gs : List (Bor Expr)) (recursive : List Bool) (call : ℕ → Size) (xs ys : List code.Size) (g : ℕ) (e : Bor Expr) (y : code.Size) →
-    length xs ≡ g → g < length gs → e ≡ get_or gs g e → ys ≡ xs ++ y ∷ [] →
-    size_of y ≡ size_when (mark_at recursive g) (size_with call (body_tree e)) →
+pub sizes_more : (gs : List (Bor Expr)) (recursive : List Bool) (call : ℕ → Size) (xs ys : List code.Size) (g : ℕ) (y : code.Size) →
+    length xs ≡ g → ys ≡ xs ++ y ∷ [] → size_of y ≡ next_size (map body_tree gs) recursive call g →
     ((k : ℕ) → k < g → size_at xs k ≡ next_size (map body_tree gs) recursive call k) →
     (k : ℕ) → k < g + 1 → size_at ys k ≡ next_size (map body_tree gs) recursive call k
-sizes_more gs recursive call xs ys g e y long inside is made now before k lt =
+sizes_more gs recursive call xs ys g y long made now before k lt =
     ap (λ zs. size_at zs k) made
     ∙ ⊎_elim
     (λ (below : k < g). at_left xs y k (omega arith) ∙ before k below)
     (λ (above : g ≤ k).
     let here : g ≡ k = omega arith in
-    at_last xs y k (omega arith) ∙ now
-    ∙ sym (ap (size_of_target (λ body. size_when (mark_at recursive g) (size_with call body))) (body_at gs g e inside is))
-    ∙ ap (next_size (map body_tree gs) recursive call) here)
+    at_last xs y k (omega arith) ∙ now ∙ ap (next_size (map body_tree gs) recursive call) here)
     (cases_lt k g)
+
+-- the size by the body of a group that is there
+pub body_size : (gs : List (Bor Expr)) (recursive : List Bool) (call : ℕ → Size) (g : ℕ) (e : Bor Expr) → g < length gs → e ≡ get_or gs g e
+    → size_when (mark_at recursive g) (size_with call (body_tree e)) ≡ next_size (map body_tree gs) recursive call g
+body_size gs recursive call g e inside is =
+    sym (ap (size_of_target (λ body. size_when (mark_at recursive g) (size_with call body))) (body_at gs g e inside is))
+
+-- nothing is known before the first iteration
+pub none_known : (n k : ℕ) → mark_at (replicate n false) k ≡ true → ⊥
+none_known zero k e = cc
+none_known (suc n) zero e = cc
+none_known (suc n) (suc k) e = none_known n k e
 
 pub sizes_all : (gs : List (Bor Expr)) (recursive : List Bool) (call : ℕ → Size) (xs : List code.Size) (g : ℕ) → length xs ≡ g → length gs ≤ g →
     g ≤ length gs → ((k : ℕ) → k < g → size_at xs k ≡ next_size (map body_tree gs) recursive call k) →

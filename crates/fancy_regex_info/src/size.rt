@@ -97,7 +97,7 @@ pub(crate) fn repeated(a: Size, lo: usize, hi: usize) -> Size
 }
 
 /// The size of a subroutine call of the group; any number of characters if there is no such group.
-fn size_of_call(calls: &[Size], group: usize) -> Size
+pub(crate) fn size_of_call(calls: &[Size], group: usize) -> Size
     ensures { meant result ≡ size_at calls.now group }
 {
     match calls.get(group) {

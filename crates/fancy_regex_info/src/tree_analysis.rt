@@ -22,7 +22,7 @@ pub fn group_call_sizes(alloc: Global, groups: &[&Expr]) -> Result<Vec<Size>, Al
 {
     let calls = calls_by_group(alloc, groups)?;
     let recursive = recursive_groups(alloc, &calls)?;
-    call_sizes(alloc, groups, &recursive)
+    call_sizes(alloc, groups, &calls, &recursive)
 }
 
 /// Analyzes the whole tree. `groups` holds the bodies of its groups and `sizes` the sizes of calls of them, both indexed by
