@@ -1,8 +1,10 @@
 -- Groups that write nothing but characters.
-use Rattle.std.proofs.Common.{◌≡◌, ℕ, zero, suc, ◌+◌, ◌-◌, ◌≤◌, Bool, true, false, cond, List, [], ◌∷◌, ◌++◌, map, set, count_by, Option, Some, None, IfSome, Box, Vec, String, Global, refl, sym, ap, ap₂, ◌∙◌, subst, arith}
+use Rattle.std.proofs.Common.{◌≡◌, ℕ, zero, suc, ◌+◌, ◌-◌, ◌<◌, ◌≤◌, ⊎_elim, Bool, true, false, cond, List, [], ◌∷◌, ◌++◌, length, take, map, set, count_by, Option, Some, None, IfSome, Box, Vec, String, Global, refl, sym, ap, ap₂, ◌∙◌, subst, arith}
 use Rattle.std.specs.Prelude.{slice_get, slice_index, ◌==◌, nat_le, chars, string_bytes}
+use Rattle.std.specs.List.{Contains}
 use Rattle.std.proofs.lemmas.Bool.Decides.{nat_tests}
-use Rattle.std.proofs.lemmas.List.{map-append}
+use Rattle.std.proofs.lemmas.List.{map-append, take_all}
+use Rattle.std.proofs.lemmas.List.Elements.{Contains-push_cases}
 use Rattle.std.proofs.lemmas.List.Sums.{sum_by-append, sum_by-cons}
 use Rattle.std.proofs.lemmas.Option.{none-some, same_Some}
 use Rattle.fancy_regex_tree.specs.declared.expr.Expr.{Expr}
@@ -124,14 +126,29 @@ module _ (lengths : List (Option ℕ)) where
       let same : count_by (λ i. i == j) (opened ++ k ∷ []) ≡ count_by (λ i. i == j) opened = omega (arith, sum_by-append f opened (k ∷ []), sum_by-cons f k [], nothing) in
       ap (nat_le max_open_calls_per_group) same
 
-  pub free_none : (most : ℕ) → IsFree lengths most []
-  free_none most k n at le = refl
+  -- none of these groups has a number of characters that is at most that
+  abbrev pub NoneHas : ℕ → List ℕ → Type 0
+  NoneHas most groups = (k n : ℕ) → Contains groups k → slice_get lengths k ≡ Some (Some n) → n ≤ most → ⊥
 
-  pub free_more : (most : ℕ) (opened more : List ℕ) (k : ℕ) → more ≡ opened ++ k ∷ [] → ((n : ℕ) → slice_get lengths k ≡ Some (Some n) → n ≤ most → ⊥) →
-      IsFree lengths most opened → IsFree lengths most more
-  free_more most opened more k is not_one free j n at le =
-      ap (λ l. is_at_call_limit l j) is
-      ∙ other_open opened k j (λ same. not_one n (ap (slice_get lengths) (sym same) ∙ at) le) ∙ free j n at le
+  pub none_has_none : (most : ℕ) → NoneHas most []
+  none_has_none most k n there at le = let low : there.0 < 0 = there.1 in omega arith
+
+  pub none_has_more : (most : ℕ) (groups more : List ℕ) (k : ℕ) → more ≡ groups ++ k ∷ [] → ((n : ℕ) → slice_get lengths k ≡ Some (Some n) → n ≤ most → ⊥) →
+      NoneHas most groups → NoneHas most more
+  none_has_more most groups more k is not_one none j n there at le =
+      ⊎_elim (λ before. none j n before at le) (λ same. not_one n (ap (slice_get lengths) same ∙ at) le)
+      (Contains-push_cases groups k j (subst (λ l. Contains l j) is there))
+
+  pub none_has_all : (most : ℕ) (groups : List ℕ) (i : ℕ) → length groups ≤ i → NoneHas most (take i groups) → NoneHas most groups
+  none_has_all most groups i all none = subst (NoneHas most) (take_all i groups all) none
+
+  pub free_unless : (most : ℕ) (opened full : List ℕ) → ((k : ℕ) → is_at_call_limit opened k ≡ true → Contains full k) → NoneHas most full →
+      IsFree lengths most opened
+  free_unless most opened full among none k n at le = either (is_at_call_limit opened k) refl
+    where
+      either : (b : Bool) → is_at_call_limit opened k ≡ b → is_at_call_limit opened k ≡ false
+      either true e = absurd (none k n (among k e) at le)
+      either false e = e
 
 -- What is known where a group more is taken up.
 get_same : (xs : List (Option ℕ)) (k : ℕ) (o y : Option ℕ) → slice_get xs k ≡ Some o → slice_get (set xs k y) k ≡ Some y

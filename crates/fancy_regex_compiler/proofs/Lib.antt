@@ -15,6 +15,7 @@ mod ClearLemmas
 mod TreeContextLemmas
 mod TextLemmas
 mod CalledTextLemmas
+mod OpenedLemmas
 mod GroupLemmas
 mod RowLemmas
 mod WritableLemmas

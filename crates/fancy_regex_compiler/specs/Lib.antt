@@ -2,6 +2,7 @@ pub mod Known
 pub mod Writing
 pub mod Groups
 pub mod CalledTexts
+pub mod Opened
 pub mod Rooms
 pub mod Extents
 pub mod Inlined

@@ -7,6 +7,7 @@ ghost use Rattle.fancy_regex_info.specs.Infos.{InfoTree, info_of};
 ghost use Rattle.fancy_regex_compiler.specs.Known.{info_written};
 ghost use Rattle.fancy_regex_compiler.specs.CalledTexts.{AreTexts, IsFree, WritesText, infos_at};
 
+use crate::open_calls::OpenCalls;
 use fancy_regex_info::Info;
 use fancy_regex_tree::Expr;
 use std::alloc::{AllocError, Global};
@@ -72,13 +73,13 @@ impl CalledTexts {
 
     /// How many characters a call of the target writes, where it writes nothing else and none of the calls in it meets the limit of open
     /// calls: these calls are open, and so many more may open.
-    pub fn characters(&self, opened: &[usize], calls_left: usize, target: usize) -> Option<usize>
+    pub fn characters(&self, opened: &OpenCalls, calls_left: usize, target: usize) -> Option<usize>
         ensures target { IfSome result (λ n. slice_get self.now.lengths.items target ≡ Some (Some n)) }
         ensures left { IfSome result (λ n. self.now.known ≤ calls_left) }
-        ensures free { IfSome result (λ n. IsFree self.now.lengths.items n opened.now) }
+        ensures free { IfSome result (λ n. IsFree self.now.lengths.items n opened.now.items) }
     {
         let characters = length_at(&self.lengths, target)?;
-        if calls_left < self.known || is_open(&self.lengths, opened, characters) {
+        if calls_left < self.known || is_full(&self.lengths, opened, characters) {
             return None;
         }
         Some(characters)
@@ -106,11 +107,12 @@ fn is_unknown(lengths: &[Option<usize>], group: usize) -> bool
     }
 }
 
-/// Whether one of the open calls is of a group that writes at most so many characters and nothing else.
-fn is_open(lengths: &[Option<usize>], opened: &[usize], most: usize) -> bool
-    ensures { result ≡ false → IsFree lengths.now most opened.now }
+/// Whether as many calls are open as may be of a group that writes at most so many characters and nothing else.
+fn is_full(lengths: &[Option<usize>], opened: &OpenCalls, most: usize) -> bool
+    ensures { result ≡ false → IsFree lengths.now most opened.now.items }
 {
-    for group in opened {
+    let full = opened.full_groups();
+    for group in full {
         if has_at_most(lengths, *group, most) {
             return true;
         }

@@ -16,10 +16,11 @@ ghost use Rattle.fancy_regex_compiler.specs.Needs.{AreOfGroups, AreStanding};
 ghost use Rattle.fancy_regex_compiler.specs.Refusals.{IsMemoryOrTooComplex, IsReasonWhere};
 ghost use Rattle.fancy_regex_compiler.specs.Writing.{draft_of, infos_of};
 
-use crate::emit::{MAX_OPEN_CALLS_PER_GROUP, emit_called};
+use crate::emit::emit_called;
 use crate::emitter::{CompileContext, Emitter, Need, Scope, past_slots};
 use crate::inlined_groups::InlinedGroups;
 use crate::main_program::{max_open_calls, new_emitter, write_main};
+use crate::open_calls::MAX_OPEN_CALLS_PER_GROUP;
 use crate::program_builder::ProgramBuilder;
 use fancy_regex_info::{CompileError, Info};
 use fancy_regex_program::{Callee, Insn};
@@ -149,7 +150,7 @@ fn write_kept<'i, 'e>(
     ensures allowed { IfOk result (λ _. IsAllowed context.now.unicode true (pat_with (infos_of context.now) (info_of info.now))) }
     ensures refused { IfErr result (IsReasonWhere context.now.unicode (infos_of context.now) (WholeStands (info_of info.now))) }
 {
-    let mut emitter = new_emitter(context.alloc, None, Vec::new(context.alloc));
+    let mut emitter = new_emitter(context.alloc, None);
     let slot = write_main(context, &mut emitter, info, anchored)?;
     let bodies = write_bodies(context, &mut emitter, slot)?;
     emitter.body.push_insn(Insn::End)?;

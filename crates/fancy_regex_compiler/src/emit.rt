@@ -3,7 +3,6 @@
 //! in `specs/Tasks.antt`: `EmitsTask` for a task, `EmitsPattern` for a pattern, `Begins` for a construct.
 
 ghost use Rattle.std.specs.Prelude.{◌≡◌, ◌<◌, ◌+◌, ℕ, List, [], ◌∷◌, ◌++◌, length, vec_len, false, true, slice_get, IfOk, IfErr, Some, None};
-ghost use Rattle.fancy_regex_meaning.specs.Ways.{is_at_call_limit as is_full_of};
 ghost use Rattle.fancy_regex_desugar.specs.CorePatterns as pat;
 ghost use Rattle.fancy_regex_desugar.specs.CorePatterns.{CorePattern};
 ghost use Rattle.fancy_regex_desugar.specs.Unfolded.{repeated, look};
@@ -42,9 +41,6 @@ use fancy_regex_tree::{Absent, Expr, LookAround};
 use std::alloc::{AllocError, Global};
 use std::slice;
 use std::sync::Arc;
-
-/// How many calls of one group may be open: so often it is inlined inside of itself, and so many frames it has.
-pub(crate) const MAX_OPEN_CALLS_PER_GROUP: usize = 19;
 
 /// Emits a whole pattern; `slot` is the first free slot. Returns the first free slot after it.
 pub(crate) fn emit<'i, 'e>(
@@ -990,7 +986,7 @@ fn emit_written_call<'i, 'e>(
     }
     check_text(context, emitter, target, scope)?;
     let body = context.groups[target];
-    if is_at_call_limit(&emitter.opened, target) || scope.calls_left == 0 {
+    if emitter.opened.is_full(target) || scope.calls_left == 0 {
         emitter.body.flush_and_push(Insn::Fail)?;
         return Ok(leads_to(slot, Tasks::Nothing));
     }
@@ -1029,13 +1025,6 @@ fn check_text(
         Some(characters) => emitter.body.check_room(characters),
         None => Ok(()),
     }
-}
-
-/// Whether the target is inlined as often as is allowed.
-fn is_at_call_limit(opened: &[usize], target: usize) -> bool
-    ensures { result ≡ is_full_of opened.now target }
-{
-    opened.iter().filter(|k| **k == target).count() >= MAX_OPEN_CALLS_PER_GROUP
 }
 
 /// Begins an absent repeater. The error is `FeatureNotYetSupported` inside of another one.

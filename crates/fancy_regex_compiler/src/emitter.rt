@@ -10,6 +10,7 @@ use crate::called_texts::CalledTexts;
 use crate::class_table::ClassTable;
 use crate::inlined_groups::InlinedGroups;
 use crate::needs::Needs;
+use crate::open_calls::OpenCalls;
 use crate::part_table::PartTable;
 use crate::program_builder::ProgramBuilder;
 use fancy_regex_info::{CompileError, Info};
@@ -62,8 +63,8 @@ pub(crate) struct Emitter {
     pub classes: ClassTable,
     /// The parts that were delegated so far.
     pub parts: PartTable,
-    /// The targets of the open calls, the innermost last.
-    pub opened: Vec<usize>,
+    /// The calls that are open.
+    pub opened: OpenCalls,
     /// The bodies that are needed.
     pub needs: Needs,
 }

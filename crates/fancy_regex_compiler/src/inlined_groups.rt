@@ -8,6 +8,7 @@ ghost use Rattle.fancy_regex_compiler.specs.Inlined.{room_at as room_in, is_inli
 ghost use Rattle.fancy_regex_compiler.specs.Known.{info_written};
 ghost use Rattle.fancy_regex_compiler.specs.Refusals.{looks_behind as is_behind};
 
+use crate::open_calls::OpenCalls;
 use fancy_regex_info::Info;
 use fancy_regex_tree::{Expr, LookAround};
 use std::alloc::{AllocError, Global};
@@ -94,12 +95,12 @@ impl InlinedGroups {
 
     /// Whether a call of the group writes nothing: none of the calls in it meets the limit of open calls. These calls are open, and so many
     /// more may open.
-    pub fn writes_nothing(&self, opened: &[usize], calls_left: usize, group: usize) -> bool
+    pub fn writes_nothing(&self, opened: &OpenCalls, calls_left: usize, group: usize) -> bool
         ensures room { result ≡ true → room_in self.now.rooms.items group ≡ Some 0 }
         ensures left { result ≡ true → self.now.known ≤ calls_left }
-        ensures free { result ≡ true → IsFree self.now.rooms.items 0 opened.now }
+        ensures free { result ≡ true → IsFree self.now.rooms.items 0 opened.now.items }
     {
-        has_no_room(&self.rooms, group) && self.known <= calls_left && !is_open(&self.rooms, opened)
+        has_no_room(&self.rooms, group) && self.known <= calls_left && !is_full(&self.rooms, opened)
     }
 }
 
@@ -146,11 +147,12 @@ fn is_unknown(rooms: &[Option<usize>], group: usize) -> bool
     }
 }
 
-/// Whether one of the open calls is of a group that writes nothing.
-fn is_open(rooms: &[Option<usize>], opened: &[usize]) -> bool
-    ensures { result ≡ false → IsFree rooms.now 0 opened.now }
+/// Whether as many calls are open as may be of a group that writes nothing.
+fn is_full(rooms: &[Option<usize>], opened: &OpenCalls) -> bool
+    ensures { result ≡ false → IsFree rooms.now 0 opened.now.items }
 {
-    for group in opened {
+    let full = opened.full_groups();
+    for group in full {
         if has_no_room(rooms, *group) {
             return true;
         }

@@ -19,6 +19,7 @@ mod leaf;
 mod literal_table;
 mod main_program;
 mod needs;
+mod open_calls;
 mod part_table;
 mod parts;
 mod program_builder;

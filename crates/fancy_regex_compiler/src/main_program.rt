@@ -16,27 +16,28 @@ ghost use Rattle.fancy_regex_compiler.specs.Writing.{draft_of, closed_draft, inf
 ghost use Rattle.fancy_regex_compiler.specs.declared.emitter.Need.{Need as NeedOf};
 
 use crate::class_table::ClassTable;
-use crate::emit::{MAX_OPEN_CALLS_PER_GROUP, emit};
+use crate::emit::emit;
 use crate::emitter::{CompileContext, Emitter, Scope, first_slot};
 use crate::needs::Needs;
+use crate::open_calls::{MAX_OPEN_CALLS_PER_GROUP, OpenCalls};
 use crate::part_table::PartTable;
 use crate::program_builder::ProgramBuilder;
 use fancy_regex_info::{CompileError, Info};
 use fancy_regex_program::Insn;
 use std::alloc::Global;
 
-/// The emitter of an empty program, with a cap on its length if there is one, and with an empty stack of open calls.
-pub(crate) fn new_emitter(alloc: Global, cap: Option<usize>, opened: Vec<usize>) -> Emitter
+/// The emitter of an empty program, with a cap on its length if there is one. No call is open.
+pub(crate) fn new_emitter(alloc: Global, cap: Option<usize>) -> Emitter
     ensures cap { result.body.cap ≡ cap_of cap }
     ensures draft { draft_of result.body ≡ record { ops = []; text = [] } }
-    ensures opened { result.opened.items ≡ opened.items }
+    ensures opened { result.opened.items ≡ [] }
     ensures needs { result.needs.list.items ≡ [] }
 {
     Emitter {
         body: ProgramBuilder::new(alloc, cap),
         classes: ClassTable::new(alloc),
         parts: PartTable::new(alloc),
-        opened,
+        opened: OpenCalls::new(alloc),
         needs: Needs::new(alloc),
     }
 }

@@ -1,4 +1,4 @@
-use Rattle.std.proofs.Common.{◌≡◌, ◌+◌, ◌-◌, ◌<◌, length, take, vec_len, refl, sym, ap, ◌∙◌, subst, arith}
+use Rattle.std.proofs.Common.{◌+◌, ◌<◌, refl, sym, ap, subst, arith}
 use Rattle.fancy_regex_compiler.specs.Tasks.{LeadsOn, EmitsTask, task_room, task_work, tasks_work, infos_work, info_work, listed}
 use Rattle.fancy_regex_compiler.specs.Writing.{infos_of}
 use Rattle.fancy_regex_compiler.specs.declared.emitter.Emitter.{Emitter}
@@ -93,8 +93,6 @@ pub returns-in-EndCall : goal.returns-in-EndCall
 returns-in-EndCall c =
     let context = c.args.context.now in
     let old = c.args.emitter.now in
-    let opened = old.opened in
-    let long : vec_len opened ≡ length opened.items = omega (arith, opened.ok.0) in
     let new : Emitter = record { body = old.body; classes = old.classes; opened = c.pop.new.self; parts = old.parts; needs = old.needs } in
     let this = ap (λ (s : Step). tasks_work (infos_of context) (listed s.tasks)) c.leads_to-in-EndCall.ensures in
     let task_is = ap (task_work (infos_of context)) c.in-EndCall.is in
@@ -102,7 +100,7 @@ returns-in-EndCall c =
       cap = refl;
       leads = subst (λ t. LeadsOn context t old new c.args.slot c.leads_to-in-EndCall.result) (sym c.in-EndCall.is)
           (leads_end_call context old new c.args.slot (λ tree_context. Unit {0}) c.leads_to-in-EndCall.result c.leads_to-in-EndCall.ensures refl
-          (c.pop.ensures.rest ∙ ap (λ n. take (n - 1) opened.items) long) refl);
+          c.pop.ensures refl);
       work = omega (arith, this, task_is);
       full = tt;
       refused = tt;

@@ -1,9 +1,7 @@
 use Rattle.std.proofs.Common.{◌≡◌, suc, ◌-◌, option_map, refl, sym, ap, ◌∙◌, subst, arith}
 use Rattle.std.specs.Prelude.{vec_len}
 use Rattle.std.proofs.lemmas.Option.{slice_get-map, slice_get_read}
-use Rattle.fancy_regex_meaning.specs.Ways.{is_at_call_limit}
 use Rattle.fancy_regex_desugar.specs.CorePatterns.{fail, called}
-use Rattle.fancy_regex_compiler.specs.CalledTexts.{IsFree}
 use Rattle.fancy_regex_compiler.specs.Known.{info_call}
 use Rattle.fancy_regex_compiler.specs.Refusals.{TreeContext, IsExpandedTarget}
 use Rattle.fancy_regex_compiler.specs.Tasks.{LeadsTo, room_of, tasks_work, listed}
@@ -21,7 +19,7 @@ use Rattle.fancy_regex_compiler.proofs.SilentLemmas.{wrote_silent, allowed_silen
 use Rattle.fancy_regex_compiler.proofs.StepLemmas.{leads_nothing, with_node}
 use Rattle.fancy_regex_compiler.proofs.WorkLemmas.{body_less}
 use Rattle.fancy_regex_compiler.proofs.emit.emit_written_call.Goals as goal
-use Rattle.fancy_regex_compiler.proofs.emit.emit_written_call.Goals.{then-is_at_call_limit-via-then-is_at_call_limit, then-is_at_call_limit-via-else-is_at_call_limit+then-scope-eq0}
+use Rattle.fancy_regex_compiler.proofs.emit.emit_written_call.Goals.{then-is_full-via-then-is_full, then-is_full-via-else-is_full+then-scope-eq0}
 
 -- a call that writes nothing
 pub returns-then-writes_nothing : goal.returns-then-writes_nothing
@@ -34,8 +32,7 @@ returns-then-writes_nothing c =
     let p = info_call groups scope.calls_left old.opened.items k in
     let h = c.writes_nothing.ensures in
     let yes = c.if-writes_nothing.true in
-    let silent = no_room context scope.calls_left old.opened.items k (h.room yes) (h.left yes)
-    (subst (IsFree context.inlined.now.rooms.items 0) c.deref.ensures.value (h.free yes)) in
+    let silent = no_room context scope.calls_left old.opened.items k (h.room yes) (h.left yes) (h.free yes) in
     let S = λ (tree_context : TreeContext). IsExpandedTarget tree_context scope.may_keep scope.may_be_absent groups k in
     record {
       cap = refl;
@@ -53,24 +50,24 @@ returns-in_err-check_text c =
     let e = c.in_err-check_text in
     emits_want c.from_residual.result e.field-0.0 c.from_residual.ensures.1 refl e.ensures.full e.ensures.refused
 
-pub returns-then-is_at_call_limit : goal.returns-then-is_at_call_limit
-returns-then-is_at_call_limit c =
+pub returns-then-is_full : goal.returns-then-is_full
+returns-then-is_full c =
     let context = c.args.context.now in
     let groups = infos_of context in
     let opened = c.args.emitter.now.opened.items in
     let m = c.args.scope.calls_left in
     let k = c.args.target in
-    let fails : info_call groups m opened k ≡ called k fail = elim c.then-is_at_call_limit.branch [
-      | then-is_at_call_limit-via-then-is_at_call_limit w ↦ call_full groups m opened k (ap (λ l. is_at_call_limit l k) (sym c.deref-2.ensures.value) ∙ sym c.is_at_call_limit.ensures ∙ w.if-is_at_call_limit.true)
-      | then-is_at_call_limit-via-else-is_at_call_limit+then-scope-eq0 w ↦ call_none groups m opened k w.if-scope-eq0.true
+    let fails : info_call groups m opened k ≡ called k fail = elim c.then-is_full.branch [
+      | then-is_full-via-then-is_full w ↦ call_full groups m opened k (sym c.is_full.ensures ∙ w.if-is_full.true)
+      | then-is_full-via-else-is_full+then-scope-eq0 w ↦ call_none groups m opened k w.if-scope-eq0.true
     ] in
     record {
       cap = c.in_ok-flush_and_push.ensures.cap;
       leads =
           leads_no_call context c.args.emitter.now c.flush_and_push.new.self c.args.slot c.args.scope.may_keep k _
-          (λ tree_context. IsExpandedTarget tree_context c.args.scope.may_keep c.args.scope.may_be_absent groups k) c.leads_to-then-is_at_call_limit.result c.requires.inlined fails c.leads_to-then-is_at_call_limit.ensures
+          (λ tree_context. IsExpandedTarget tree_context c.args.scope.may_keep c.args.scope.may_be_absent groups k) c.leads_to-then-is_full.result c.requires.inlined fails c.leads_to-then-is_full.ensures
           c.in_ok-flush_and_push.ensures.draft c.in_ok-flush_and_push.ensures.long;
-      work = let this = ap (λ (s : Step). tasks_work groups (listed s.tasks)) c.leads_to-then-is_at_call_limit.ensures in omega (arith, this);
+      work = let this = ap (λ (s : Step). tasks_work groups (listed s.tasks)) c.leads_to-then-is_full.ensures in omega (arith, this);
       full = tt;
       refused = tt;
     }
@@ -81,9 +78,9 @@ returns-in_err-flush_and_push c =
     let opened = c.args.emitter.now.opened.items in
     let m = c.args.scope.calls_left in
     let k = c.args.target in
-    let fails : info_call groups m opened k ≡ called k fail = elim c.then-is_at_call_limit.branch [
-      | then-is_at_call_limit-via-then-is_at_call_limit w ↦ call_full groups m opened k (ap (λ l. is_at_call_limit l k) (sym c.deref-2.ensures.value) ∙ sym c.is_at_call_limit.ensures ∙ w.if-is_at_call_limit.true)
-      | then-is_at_call_limit-via-else-is_at_call_limit+then-scope-eq0 w ↦ call_none groups m opened k w.if-scope-eq0.true
+    let fails : info_call groups m opened k ≡ called k fail = elim c.then-is_full.branch [
+      | then-is_full-via-then-is_full w ↦ call_full groups m opened k (sym c.is_full.ensures ∙ w.if-is_full.true)
+      | then-is_full-via-else-is_full+then-scope-eq0 w ↦ call_none groups m opened k w.if-scope-eq0.true
     ] in
     let e = c.in_err-flush_and_push in
     emits_want c.from_residual-in_err-flush_and_push.result e.field-0.0 c.from_residual-in_err-flush_and_push.ensures.1 e.ensures.cap
@@ -110,11 +107,11 @@ returns c = record {
       let some = c.if-scope-eq0.false in
       let more : c.args.scope.calls_left ≡ suc (c.args.scope.calls_left - 1) = omega (arith, some) in
       let at = slice_get-map info_at groups k ∙ ap (option_map info_at) (slice_get_read groups (vec_len context.groups.now) k x (omega (arith, context.groups.now.ok.0)) c.requires.there c.index-body.ensures) in
-      let free = ap (λ xs. is_at_call_limit xs k) (sym c.deref-2.ensures.value) ∙ sym c.is_at_call_limit.ensures ∙ c.if-is_at_call_limit.false in
+      let free = sym c.is_full.ensures ∙ c.if-is_full.false in
       subst (λ r. LeadsTo context p c.args.scope.may_keep
       (λ (tree_context : TreeContext). IsExpandedTarget tree_context c.args.scope.may_keep c.args.scope.may_be_absent (infos_of context) k) old new c.args.slot r)
       (sym (with_node _ _ _ _ _ c.leads_to-2.ensures c.node_task.ensures))
-      (leads_call context old new c.args.slot (c.args.scope.calls_left - 1) k c.args.scope inner x c.requires.inlined more refl refl refl at free refl c.in_ok-push.ensures.items refl);
+      (leads_call context old new c.args.slot (c.args.scope.calls_left - 1) k c.args.scope inner x c.requires.inlined more refl refl refl at free refl c.in_ok-push.ensures.ok refl);
   work =
       let context = c.args.context.now in
       let groups = context.groups.now.items in

@@ -1,6 +1,0 @@
-use Rattle.std.proofs.Common.{take}
-use Rattle.fancy_regex_compiler.specs.CalledTexts.{IsFree}
-use Rattle.fancy_regex_compiler.proofs.called_texts.is_open.Given as goal
-
-abbrev pub invariant-loop-group : goal.invariant-loop-group
-invariant-loop-group l = IsFree l.lengths l.most (take l.group-index l.opened)
