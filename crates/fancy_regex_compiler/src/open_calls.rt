@@ -11,7 +11,7 @@ use std::marker::Model;
 /// How many calls of one group may be open: so often it is inlined inside of itself, and so many frames it has.
 pub(crate) const MAX_OPEN_CALLS_PER_GROUP: usize = 19;
 
-/// The open calls. To open one, to close one, and to count those of a group takes constant time on average.
+/// The open calls. Each step takes constant time on average, besides the time for a count of each group, which is made once.
 #[derive(Drop)]
 pub(crate) struct OpenCalls {
     /// The targets of the open calls, the innermost last.

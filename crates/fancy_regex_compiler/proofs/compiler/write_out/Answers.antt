@@ -28,7 +28,7 @@ pub returns-in_err-slots-clause-full : goal.returns-in_err-slots-clause-full
 returns-in_err-slots-clause-full c =
     let context = c.args.context.now in
     let p = pat_with (infos_of context) (info_of c.args.info.now) in
-    let r = c.from_residual-in_err-slots in
+    let r = c.from_residual in
     let same = ap (λ l. room_with l p) (none_drafted context c.requires) ∙ room_written_out p in
     late r.result c.in_err-slots.field-0.0 _ _ r.ensures.1 c.in_err-slots.ensures.full
     (λ lt. omega (arith, lt, same, c.new_emitter-emitter.ensures.cap))
