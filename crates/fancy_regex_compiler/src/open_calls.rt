@@ -89,7 +89,7 @@ impl OpenCalls {
     }
 }
 
-/// Counts none of the groups up to this one that have no count yet.
+/// Makes the counts reach up to this group; each new one is 0.
 fn count_to(counts: &mut Vec<usize>, group: usize) -> Result<(), AllocError>
     ensures counts { (targets : List ℕ) → AreCounts counts.old.items targets → AreCounts counts.new.items targets }
     ensures there { OnOk result (group < length counts.new.items) }
@@ -100,8 +100,8 @@ fn count_to(counts: &mut Vec<usize>, group: usize) -> Result<(), AllocError>
     Ok(())
 }
 
-/// Adds a call of the group, with which there are so many of it, and the group to those of which as many are open as may be if they are.
-/// If memory runs out, nothing changes.
+/// Adds a call of the group, with which so many of it are open; where these are as many as may be, the group joins the full ones. If
+/// memory runs out, nothing changes.
 fn add_call(
     targets: &mut Vec<usize>,
     full: &mut Vec<usize>,
