@@ -140,6 +140,10 @@ module _ (test : Tree → Bool) where
   group_node true t h = body_node t h
   group_node false t h = or_either (N t) (some_in (bodies t)) (N t) (λ e. e) (body_node t) h
 
+  -- a node of the body of a group is one of the tree
+  pub group_body_node : (explicit : Bool) (root : Tree) (k : ℕ) (body : Tree) → slice_get (pattern_in explicit root).groups k ≡ Some body → N body ≡ true → N root ≡ true
+  group_body_node explicit root k body found h = group_node explicit root (in_list (pattern_in explicit root).groups k body found h)
+
   whole_node : (explicit : Bool) (root : Tree) (i : Inside) (t : Tree) → IsWhole (pattern_in explicit root).groups root i t → N t ≡ true → N root ≡ true
   whole_node explicit root i t itself h = h
   whole_node explicit root i body (called j t _ call whole has found) h =

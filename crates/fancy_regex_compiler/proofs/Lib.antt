@@ -11,7 +11,7 @@ mod LeafLemmas
 mod EmitLemmas
 mod NodeLemmas
 mod RefusalLemmas
-mod ClearLemmas
+pub mod ClearLemmas
 mod TreeContextLemmas
 mod TextLemmas
 mod CalledTextLemmas

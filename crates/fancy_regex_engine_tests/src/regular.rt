@@ -29,7 +29,7 @@ const UNICODE: u32 = FLAG_UNICODE;
 
 const ONIGURUMA: u32 = FLAG_UNICODE | FLAG_MULTI | FLAG_ONIGURUMA_MODE;
 
-static SEARCHES: [Search; 82] = [
+static SEARCHES: [Search; 98] = [
     // a line break is `\r\n`, or one character
     Search("\\R", UNICODE, "\r\n", Answer::Match(0, 2)),
     Search("\\R\\n", UNICODE, "\r\n", Answer::Nothing),
@@ -124,10 +124,74 @@ static SEARCHES: [Search; 82] = [
         "0b5",
         Answer::Match(2, 3),
     ),
+    // calls are the bodies of their groups, as often as there are calls
+    Search("(?(DEFINE)(a))\\g<1>", UNICODE, "ba", Answer::Match(1, 2)),
+    Search(
+        "(?(DEFINE)(a|ab))\\g<1>c",
+        UNICODE,
+        "abc",
+        Answer::Match(0, 3),
+    ),
+    Search(
+        "(?(DEFINE)([ab]c))\\g<1>{2,}d",
+        UNICODE,
+        "xacbcd",
+        Answer::Match(1, 6),
+    ),
+    Search(
+        "(?(DEFINE)(a)(\\g<1>\\g<1>)(\\g<2>\\g<2>))\\g<3>b",
+        UNICODE,
+        "aaab aaaab",
+        Answer::Match(5, 10),
+    ),
+    Search("\\g<w>-(?<w>\\w+)", UNICODE, "ab-cd", Answer::Match(0, 5)),
+    Search(
+        "(?(DEFINE)(?<octet>25[0-5]|2[0-4]\\d|1?\\d?\\d))\\b\\g<octet>(?:\\.\\g<octet>){3}\\b(?!\\.)",
+        UNICODE,
+        "x 1.2.3.4.5",
+        Answer::Match(4, 11),
+    ),
+    // in look-arounds, atomic groups and loops
+    Search(
+        "(?(DEFINE)(ab))(?<=\\g<1>)c",
+        UNICODE,
+        "abc",
+        Answer::Match(2, 3),
+    ),
+    Search(
+        "(?(DEFINE)(a|ab))(?>\\g<1>)c",
+        UNICODE,
+        "abc",
+        Answer::Nothing,
+    ),
+    Search(
+        "(?(DEFINE)(a|ab))(?!\\g<1>)\\w",
+        UNICODE,
+        "abc",
+        Answer::Match(1, 2),
+    ),
+    Search(
+        "(?(DEFINE)(a?))(?:\\g<1>)*b",
+        UNICODE,
+        "aab",
+        Answer::Match(0, 3),
+    ),
+    // what is repeated no times is not asked
+    Search("(?:\\g<1>){0}(a)\\g<1>", UNICODE, "aa", Answer::Match(0, 2)),
+    Search("(?:(a)\\1){0}b", UNICODE, "ab", Answer::Match(1, 2)),
     // what has no states
+    Search("(a\\g<1>?b)", UNICODE, "ab", Answer::NoStates),
+    Search("(x\\g<2>?)(y\\g<1>?)", UNICODE, "ab", Answer::NoStates),
+    Search("(x\\g<2>?|z)(a)\\2", UNICODE, "ab", Answer::NoStates),
+    Search("(?(DEFINE)((a)\\2))\\g<1>", UNICODE, "ab", Answer::NoStates),
+    Search(
+        "(?(DEFINE)(a{3000}))\\g<1>\\g<1>",
+        UNICODE,
+        "ab",
+        Answer::NoStates,
+    ),
     Search("(a)?(?(1)b|c)", UNICODE, "ab", Answer::NoStates),
     Search("(?(a)b|(c)\\1)", UNICODE, "ab", Answer::NoStates),
-    Search("(?(DEFINE)(a))\\g<1>", UNICODE, "a", Answer::NoStates),
     Search("(a)\\1", UNICODE, "aa", Answer::NoStates),
     Search("a\\Kb", UNICODE, "ab", Answer::NoStates),
     Search("\\G\\Kb", UNICODE, "ab", Answer::NoStates),
@@ -163,7 +227,7 @@ struct Groups(Text, Text, [usize; 6], usize);
 const UNSET: usize = usize::MAX;
 
 /// Groups in look-arounds, atomic groups and conditionals, as the backtracking program has them.
-static GROUPS: [Groups; 15] = [
+static GROUPS: [Groups; 19] = [
     // of the last iteration
     Groups("(a(?=b|(c)))+", "abac", [0, 1, 0, 1, UNSET, UNSET], 6),
     Groups("(a(?=b|(c))b?)+", "abac", [0, 3, 2, 3, 3, 4], 6),
@@ -186,6 +250,21 @@ static GROUPS: [Groups; 15] = [
         "(?=(?(DEFINE)(a))b)(\\w)",
         "ab",
         [1, 2, UNSET, UNSET, 1, 2],
+        6,
+    ),
+    // a call does not write its own group, but those inside
+    Groups("(a|b)\\g<1>", "ab", [0, 2, 0, 1, UNSET, UNSET], 4),
+    Groups("((a)|b)\\g<1>", "ba", [0, 2, 0, 1, 1, 2], 6),
+    Groups(
+        "(?(DEFINE)((a|b)c))\\g<1>",
+        "bc",
+        [0, 2, UNSET, UNSET, 0, 1],
+        6,
+    ),
+    Groups(
+        "(?(DEFINE)((a)b))(?=\\g<1>)a",
+        "ab",
+        [0, 1, UNSET, UNSET, 0, 1],
         6,
     ),
     // what must not be is not written

@@ -24,7 +24,7 @@ use Rattle.fancy_regex_linear.specs.Program.{emitted, AgreeBut, MayAskIn}
 use Rattle.fancy_regex_linear.specs.Search.{Closed}
 use Rattle.fancy_regex_linear.specs.EasyPatterns.{span_of_match}
 use Rattle.fancy_regex_linear.specs.Find.{found_of_span, span_of_found, FoundMatch, earliest, attempted, places}
-use Rattle.fancy_regex_linear.specs.Plain.{IsPlain, classes, re_of}
+use Rattle.fancy_regex_linear.specs.Plain.{no_calls, IsPlain, classes, re_of}
 use Rattle.fancy_regex_class.specs.RunInputs.{group_slots, match_slots, setting_for, search_for}
 use Rattle.fancy_regex_linear.specs.SettingView.{view_of}
 use Rattle.fancy_regex_linear.specs.Easy.{AreStatesOf, IsMade, found_slots}
@@ -176,7 +176,7 @@ module _ (unicode longest : Bool) (text : List ℕ) (input : RunInput) (states :
   find = search_for longest input
 
   abbrev re : Re
-  re = re_of unicode pattern.groups pattern.first_group 0 pattern.tree
+  re = re_of unicode [] no_calls pattern.first_group 0 pattern.tree
 
   abbrev view : View
   view = view_of s (classes pattern.tree) longest
@@ -185,7 +185,7 @@ module _ (unicode longest : Bool) (text : List ℕ) (input : RunInput) (states :
   stop = input.range.end
 
   may : MayAskIn view.has_parts re
-  may = plain_may unicode pattern.groups pattern.first_group 0 pattern.tree is_plain
+  may = plain_may unicode [] no_calls pattern.first_group 0 pattern.tree is_plain
 
   abbrev whole : Bool
   whole = not (pattern.first_group == 0)
@@ -203,7 +203,7 @@ module _ (unicode longest : Bool) (text : List ℕ) (input : RunInput) (states :
   all_ways : (p : ℕ) → p ≤ length text → map spot_of (ways_at s pattern find p) ≡ plain.ways view (length text) re (record { at = p; slots = unset })
   unfolding ways
   all_ways p h =
-      tree_same s pattern.groups unicode (call_ways s pattern.groups (max_open_calls pattern.groups) []) (classes pattern.tree) longest (λ c. refl) pattern.first_group 0 pattern.tree is_plain
+      tree_same s pattern.groups unicode (call_ways s pattern.groups (max_open_calls pattern.groups) []) (classes pattern.tree) longest (λ c. refl) [] no_calls pattern.first_group 0 pattern.tree is_plain
       (λ j lt. let e : 0 + j ≡ j = omega arith in ap (slice_get (classes pattern.tree)) e) (start_way pattern p) h
       ∙ ap (λ (xs : List ℕ). plain.ways view (length text) re (record { at = p; slots = xs })) (flat_none (length pattern.groups))
 
@@ -289,13 +289,13 @@ module _ (unicode longest : Bool) (text : List ℕ) (input : RunInput) (states :
 
 -- the states of a plain tree weigh no more than it
 pub states_weigh : (unicode : Bool) (states : List State) (entry : ℕ) (pattern : Pattern) → IsPlain pattern.tree
-    → emitted (re_of unicode pattern.groups pattern.first_group 0 pattern.tree) (S.Match ∷ []) 0 ≡ (states, entry)
+    → emitted (re_of unicode [] no_calls pattern.first_group 0 pattern.tree) (S.Match ∷ []) 0 ≡ (states, entry)
     → length states + 1 ≤ tree_weight pattern.groups pattern.tree
 states_weigh unicode states entry pattern p e =
-    let re = re_of unicode pattern.groups pattern.first_group 0 pattern.tree in
+    let re = re_of unicode [] no_calls pattern.first_group 0 pattern.tree in
     let most = emitted_weighs re (S.Match ∷ []) 0 in
     let same : length (emitted re (S.Match ∷ []) 0).0 ≡ length states = ap (λ (m : List State × ℕ). length m.0) e in
-    omega (arith, most, same, light unicode pattern.groups pattern.first_group 0 pattern.tree p)
+    omega (arith, most, same, light unicode [] no_calls pattern.groups pattern.first_group 0 pattern.tree p)
 
 -- each place is looked at once, and each pair of a state and a place once
 pub steps_bound : (count old m n w : ℕ) → count ≤ old + m * n + m → n + 1 ≤ w → count ≤ old + w * m

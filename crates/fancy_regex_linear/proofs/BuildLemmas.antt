@@ -1,16 +1,17 @@
 -- The translation of a list of trees, one by one.
-use Rattle.std.proofs.Common.{◌≡◌, ◌≢◌, ◌==◌, not, zero, suc, ℕ, ◌+◌, ◌<◌, ◌≤◌, ◌||◌, ◌&&◌, Bool, true, false, true≢false, List, [], ◌∷◌, ◌++◌, length, map, take, get_or, refl, sym, ap, ap₂, ◌∙◌, arith, length-append, ne_eqb, Option, Some, None, IfSome, Result, Ok, Err, IfOk}
+use Rattle.std.proofs.Common.{◌≡◌, ◌≢◌, ◌==◌, not, zero, suc, ℕ, ◌+◌, ◌<◌, ◌≤◌, ◌||◌, ◌&&◌, Bool, true, false, true≢false, List, [], ◌∷◌, ◌++◌, length, map, take, get_or, refl, sym, ap, ap₂, ◌∙◌, arith, length-append, ne_eqb, Option, None, IfSome, Result, Ok, Err, IfOk, Vec, Global}
 use Rattle.std.proofs.lemmas.List.{take_more, take_all, map-append, append_assoc, append-nil}
 use Rattle.std.specs.List.{Contains}
 use Rattle.std.proofs.lemmas.List.Elements.{All-nil, All-cons, All-append, Contains-append_left, Contains-append_right}
 use Rattle.std.proofs.Math.Bool.{or_assoc, and_assoc, and-true}
 use Rattle.regex_class.proofs.RangesLemmas.{or-false}
 use Rattle.fancy_regex_tree.specs.Tree as tree
-use Rattle.fancy_regex_tree.specs.Tree.{Tree, Trees, Text, any, literal, delegate, no_trees, trees, tree_of, conditional, look_around}
+use Rattle.fancy_regex_tree.specs.Tree.{Tree, Trees, Text, any, literal, delegate, no_trees, trees, tree_of, conditional}
 use Rattle.fancy_regex_tree.specs.declared.expr.LookAround.{LookAround}
 use Rattle.fancy_regex_tree.specs.declared.expr.Expr.{Expr}
 use Rattle.fancy_regex_meaning.specs.Groups.{group_count, row_group_count}
-use Rattle.fancy_regex_meaning.specs.Sizes.{Size, size}
+use Rattle.fancy_regex_meaning.specs.Sizes.{size}
+use Rattle.fancy_regex_meaning.specs.Sizes as sizes
 use Rattle.fancy_regex_class.specs.declared.class.CharClassMatcher.{CharClassMatcher}
 use Rattle.fancy_regex_class.specs.Matchers.{IsMatcherOf}
 use Rattle.fancy_regex_info.specs.declared.error.CompileError.{CompileError}
@@ -23,8 +24,11 @@ use Rattle.fancy_regex_linear.specs.Plain.{IsOneChar, IsPlain, ArePlain, IsRegul
 use Rattle.fancy_regex_linear.specs.Easy.{HaveMatchers}
 use Rattle.fancy_regex_states.specs.declared.atom.Leaf.{Leaf}
 use Rattle.fancy_regex_linear.specs.Refusals.{IsRead, IsClassCause}
-use Rattle.fancy_regex_linear.specs.Translation.{all_trees, TreePattern, around_tree, Extends, row_list, all_move, AreSound, BuildsRow}
+use Rattle.fancy_regex_linear.specs.Translation.{all_trees, IsWritable, AreWritable, called_in, TreePattern, around_tree, Extends, row_list, all_move, AreSound, BuildsRow}
 use Rattle.fancy_regex_linear.specs.declared.build.Translator.{Translator}
+use Rattle.fancy_regex_linear.specs.declared.callee.Callee.{Callee}
+use Rattle.fancy_regex_info.specs.declared.size.Size.{Size}
+use Rattle.fancy_regex_info.specs.AnalysisRelations.{AreCallSizes}
 use Rattle.fancy_regex_linear.proofs.PlainLemmas.{AllOf, IsStill}
 use Rattle.fancy_regex_linear.proofs.PartLemmas.{IsOnePart}
 
@@ -34,13 +38,13 @@ if_ok (Ok x) f h = f x h
 if_ok (Err e) f h = tt
 
 -- where a row with one more tree becomes a pattern with parts, so do both
-regular_more : (ts : List Tree) (t : Tree) → AreRegular (trees (ts ++ t ∷ [])) → AreRegular (trees ts) × IsRegular t
+regular_more : (ts : List Tree) (t : Tree) → AreWritable (trees (ts ++ t ∷ [])) → AreWritable (trees ts) × IsWritable t
 regular_more [] t p = (tt, p.0)
 regular_more (u ∷ ts) t p = let rest = regular_more ts t p.1 in ((p.0, rest.0), rest.1)
 
-regular_added : (ts : List Tree) (t : Tree) → AreRegular (trees ts) → IsRegular t → AreRegular (trees (ts ++ t ∷ []))
-regular_added [] t ps p = (p, tt)
-regular_added (u ∷ ts) t ps p = (ps.0, regular_added ts t ps.1 p)
+pub regular_added : (called : ℕ → Type 0) (ts : List Tree) (t : Tree) → AreRegular called (trees ts) → IsRegular called t → AreRegular called (trees (ts ++ t ∷ []))
+regular_added called [] t ps p = (p, tt)
+regular_added called (u ∷ ts) t ps p = (ps.0, regular_added called ts t ps.1 p)
 
 -- a row with one more tree is plain if both are
 plain_added : (ts : List Tree) (t : Tree) → ArePlain (trees ts) → IsPlain t → ArePlain (trees (ts ++ t ∷ []))
@@ -48,19 +52,19 @@ plain_added [] t ps p = (p, tt)
 plain_added (u ∷ ts) t ps p = (ps.0, plain_added ts t ps.1 p)
 
 -- a look-around for one character is the test of it
-pub look_is : (unicode : Bool) (groups : List Tree) (n k : ℕ) (t : Tree) (how : LookAround) (leaf : Option Leaf) (made body : Re) → IsOneChar t
-    → leaf ≡ char_leaf unicode k t → IfSome leaf (λ l. made ≡ re.test (look_test how l)) → made ≡ around unicode groups n k how body t
+pub look_is : (unicode : Bool) (groups : List Tree) (called : ℕ → Re) (n k : ℕ) (t : Tree) (how : LookAround) (leaf : Option Leaf) (made body : Re) → IsOneChar t
+    → leaf ≡ char_leaf unicode k t → IfSome leaf (λ l. made ≡ re.test (look_test how l)) → made ≡ around unicode groups called n k how body t
 unfolding around
-look_is unicode groups n k (any newline crlf) how leaf made body one is h = rw is at h
-look_is unicode groups n k (literal val casei) how leaf made body one is h = rw is at h
-look_is unicode groups n k (delegate class casei) how leaf made body one is h = rw is at h
-look_is unicode groups n k _ how leaf made body one is h = absurd one
+look_is unicode groups called n k (any newline crlf) how leaf made body one is h = rw is at h
+look_is unicode groups called n k (literal val casei) how leaf made body one is h = rw is at h
+look_is unicode groups called n k (delegate class casei) how leaf made body one is h = rw is at h
+look_is unicode groups called n k _ how leaf made body one is h = absurd one
 
 -- one over another tree asks a part, or is one of its branches in a look-behind
-module _ (unicode : Bool) (groups : List Tree) (n k : ℕ) (how : LookAround) (body : Re) where
+module _ (unicode : Bool) (groups : List Tree) (called : ℕ → Re) (n k : ℕ) (how : LookAround) (body : Re) where
   -- a look-ahead asks it from here
   pub ahead_is : (t : Tree) → char_leaf unicode k t ≡ None → is_look_behind how ≡ false
-      → re.ask (is_negated_look how) 0 body ≡ around unicode groups n k how body t
+      → re.ask (is_negated_look how) 0 body ≡ around unicode groups called n k how body t
   unfolding around
   ahead_is (any newline crlf) none ahead = cc
   ahead_is (literal val casei) none ahead = cc
@@ -68,8 +72,8 @@ module _ (unicode : Bool) (groups : List Tree) (n k : ℕ) (how : LookAround) (b
   ahead_is _ none ahead = rw ahead refl
 
   -- a look-behind asks it from so many characters before
-  pub behind_is : (t : Tree) (s : Size) → char_leaf unicode k t ≡ None → is_look_behind how ≡ true → s ≡ size groups t → IsOnePart s.always t
-      → re.ask (is_negated_look how) s.least body ≡ around unicode groups n k how body t
+  pub behind_is : (t : Tree) (s : sizes.Size) → char_leaf unicode k t ≡ None → is_look_behind how ≡ true → s ≡ size groups t → IsOnePart s.always t
+      → re.ask (is_negated_look how) s.least body ≡ around unicode groups called n k how body t
   unfolding around
   behind_is (any newline crlf) s none behind is one = cc
   behind_is (literal val casei) s none behind is one = cc
@@ -78,8 +82,8 @@ module _ (unicode : Bool) (groups : List Tree) (n k : ℕ) (how : LookAround) (b
   behind_is _ s none behind is one = rw (behind, ← is) refl
 
   -- or looks for each branch
-  pub each_behind : (ts : Trees) (s : Size) → is_look_behind how ≡ true → s ≡ size groups (tree.alt ts) → s.always ≡ false
-      → joined (is_negated_look how) (each_around unicode groups n k how ts) ≡ around unicode groups n k how body (tree.alt ts)
+  pub each_behind : (ts : Trees) (s : sizes.Size) → is_look_behind how ≡ true → s ≡ size groups (tree.alt ts) → s.always ≡ false
+      → joined (is_negated_look how) (each_around unicode groups called n k how ts) ≡ around unicode groups called n k how body (tree.alt ts)
   unfolding around
   each_behind ts s behind is more = rw (behind, ← is, more) refl
 
@@ -129,12 +133,26 @@ pub plain_whole : (es : List Expr) (i : ℕ) → length es ≤ i → ArePlain (t
 plain_whole es i h done = rw (take_all i es h) at done
 
 -- the same of trees that become patterns with parts
-pub regular_step : (es : List Expr) (i : ℕ) (e : Expr) → i < length es → e ≡ get_or es i e → AreRegular (trees (map tree_of (take i es)))
-    → IsRegular (tree_of e) → AreRegular (trees (map tree_of (take (i + 1) es)))
-regular_step es i e h is done one = rw (trees_more es i e h is) (regular_added (map tree_of (take i es)) (tree_of e) done one)
+pub regular_step : (called : ℕ → Type 0) (es : List Expr) (i : ℕ) (e : Expr) → i < length es → e ≡ get_or es i e
+    → AreRegular called (trees (map tree_of (take i es))) → IsRegular called (tree_of e) → AreRegular called (trees (map tree_of (take (i + 1) es)))
+regular_step called es i e h is done one = rw (trees_more es i e h is) (regular_added called (map tree_of (take i es)) (tree_of e) done one)
 
-pub regular_whole : (es : List Expr) (i : ℕ) → length es ≤ i → AreRegular (trees (map tree_of (take i es))) → AreRegular (all_trees es)
-regular_whole es i h done = rw (take_all i es h) at done
+pub regular_whole : (called : ℕ → Type 0) (es : List Expr) (i : ℕ) → length es ≤ i → AreRegular called (trees (map tree_of (take i es)))
+    → AreRegular called (all_trees es)
+regular_whole called es i h done = rw (take_all i es h) at done
+
+-- three tests
+pub three_hold : (a b c : Bool) → (a && b && c) ≡ true → (a ≡ true) × ((b ≡ true) × (c ≡ true))
+three_hold true true true h = (refl, (refl, refl))
+three_hold true true false h = absurd (true≢false (sym h))
+three_hold true false c h = absurd (true≢false (sym h))
+three_hold false b c h = absurd (true≢false (sym h))
+
+pub three_fail : (a b c : Bool) → (a && b && c) ≡ false → (a ≡ false → ⊥) → (b ≡ false → ⊥) → (c ≡ false → ⊥) → ⊥
+three_fail true true true h x y z = true≢false h
+three_fail true true false h x y z = z refl
+three_fail true false c h x y z = y refl
+three_fail false b c h x y z = x refl
 
 pub some_trees : (es : List Expr) → (length es == 0) ≡ false → all_trees es ≢ no_trees
 some_trees [] h e = absurd (true≢false h)
@@ -152,40 +170,40 @@ classes_more [] t = append-nil (classes t)
 classes_more (u ∷ ts) t =
     ap (λ cs. classes u ++ cs) (classes_more ts t) ∙ sym (append_assoc (classes u) (row_classes (trees ts)) (classes t))
 
-module _ (one : TreePattern) (unicode : Bool) (groups : List Tree) where
+module _ (one : TreePattern) (unicode : Bool) (groups : List Tree) (called : ℕ → Re) where
   pub list_more : (ts : List Tree) (t : Tree) (n k : ℕ)
-      → row_list one unicode groups n k (ts ++ t ∷ [])
-      ≡ row_list one unicode groups n k ts ++ one unicode groups (n + row_group_count (trees ts)) (k + length (row_classes (trees ts))) t ∷ []
+      → row_list one unicode groups called n k (ts ++ t ∷ [])
+      ≡ row_list one unicode groups called n k ts ++ one unicode groups called (n + row_group_count (trees ts)) (k + length (row_classes (trees ts))) t ∷ []
   unfolding row_list group_count classes
   list_more [] t n k =
       let a : n ≡ n + 0 = omega arith in
       let b : k ≡ k + 0 = omega arith in
-      ap₂ (λ (x y : ℕ). one unicode groups x y t ∷ []) a b
+      ap₂ (λ (x y : ℕ). one unicode groups called x y t ∷ []) a b
   list_more (u ∷ ts) t n k =
       let a : n + group_count u + row_group_count (trees ts) ≡ n + (group_count u + row_group_count (trees ts)) = omega arith in
       let b : k + length (classes u) + length (row_classes (trees ts)) ≡ k + length (classes u ++ row_classes (trees ts)) =
       omega (arith, length-append (classes u) (row_classes (trees ts))) in
-      ap (λ xs. one unicode groups n k u ∷ xs)
+      ap (λ xs. one unicode groups called n k u ∷ xs)
       (list_more ts t (n + group_count u) (k + length (classes u))
-      ∙ ap₂ (λ (x y : ℕ). row_list one unicode groups (n + group_count u) (k + length (classes u)) ts ++ one unicode groups x y t ∷ []) a b)
+      ∙ ap₂ (λ (x y : ℕ). row_list one unicode groups called (n + group_count u) (k + length (classes u)) ts ++ one unicode groups called x y t ∷ []) a b)
 
-module _ (unicode : Bool) (groups : List Tree) where
+module _ (unicode : Bool) (groups : List Tree) (called : ℕ → Re) where
   -- a row, the branches of an alternation, and the look-behinds for such branches
-  pub row_is : (ts : List Tree) (n k : ℕ) → cats (row_list re_of unicode groups n k ts) ≡ row_of unicode groups n k (trees ts)
+  pub row_is : (ts : List Tree) (n k : ℕ) → cats (row_list re_of unicode groups called n k ts) ≡ row_of unicode groups called n k (trees ts)
   unfolding row_list re_of
   row_is [] n k = refl
-  row_is (t ∷ ts) n k = ap (cat (re_of unicode groups n k t)) (row_is ts _ _)
+  row_is (t ∷ ts) n k = ap (cat (re_of unicode groups called n k t)) (row_is ts _ _)
 
-  pub branches_is : (ts : List Tree) (n k : ℕ) → alts (row_list re_of unicode groups n k ts) ≡ branches_of unicode groups n k (trees ts)
+  pub branches_is : (ts : List Tree) (n k : ℕ) → alts (row_list re_of unicode groups called n k ts) ≡ branches_of unicode groups called n k (trees ts)
   unfolding row_list re_of
   branches_is [] n k = refl
   branches_is (t ∷ []) n k = refl
-  branches_is (t ∷ u ∷ ts) n k = ap (alt (re_of unicode groups n k t)) (branches_is (u ∷ ts) _ _)
+  branches_is (t ∷ u ∷ ts) n k = ap (alt (re_of unicode groups called n k t)) (branches_is (u ∷ ts) _ _)
 
-  pub each_is : (how : LookAround) (ts : List Tree) (n k : ℕ) → row_list (around_tree how) unicode groups n k ts ≡ each_around unicode groups n k how (trees ts)
+  pub each_is : (how : LookAround) (ts : List Tree) (n k : ℕ) → row_list (around_tree how) unicode groups called n k ts ≡ each_around unicode groups called n k how (trees ts)
   unfolding row_list each_around
   each_is how [] n k = refl
-  each_is how (t ∷ ts) n k = ap (λ xs. around unicode groups n k how (re_of unicode groups n k t) t ∷ xs) (each_is how ts _ _)
+  each_is how (t ∷ ts) n k = ap (λ xs. around unicode groups called n k how (re_of unicode groups called n k t) t ∷ xs) (each_is how ts _ _)
 
 -- a concatenation consumes a character if one of its children does
 pub row_moves : (xs : List Re) (x : Re) → never_empty (cats (xs ++ x ∷ [])) ≡ (never_empty (cats xs) || never_empty x)
@@ -252,44 +270,54 @@ pub row_none : (one : TreePattern) (translator : Translator) → BuildsRow one t
 unfolding row_list group_count classes
 row_none one translator = record {
   unicode = refl;
+  tables = (refl, refl);
   matchers = record { count = omega arith; serve = λ ds s. rw (append-nil ds) s; read = All-nil (IsRead translator.unicode) };
   sound = tt;
   groups = λ regular. omega arith;
-  patterns = λ regular groups. refl;
+  patterns = λ regular groups sized. refl;
 }
+
+-- what one tree becomes, by the tables of a translator
+abbrev pub IsOneBy : TreePattern → Translator → Tree → Re → Type 0
+IsOneBy one translator t x =
+    IsWritable t → (groups : List Tree) → AreCallSizes groups translator.sizes.items
+    → x ≡ one translator.unicode groups (called_in translator.called.items) translator.next_group (length translator.matchers.items) t
 
 -- one more was
 pub row_step : (one : TreePattern) (before mid after : Translator) (ts : List Tree) (xs : List Re) (t : Tree) (x : Re) → BuildsRow one before mid ts xs
-    → after.unicode ≡ mid.unicode → (IsRegular t → after.next_group ≡ mid.next_group + group_count t)
-    → Extends mid.unicode mid.matchers.items after.matchers.items (classes t) → IsSound x
-    → (IsRegular t → (groups : List Tree) → x ≡ one mid.unicode groups mid.next_group (length mid.matchers.items) t)
+    → after.unicode ≡ mid.unicode → (after.sizes ≡ mid.sizes) × (after.called ≡ mid.called)
+    → (IsWritable t → after.next_group ≡ mid.next_group + group_count t)
+    → Extends mid.unicode mid.matchers.items after.matchers.items (classes t) → IsSound x → IsOneBy one mid t x
     → BuildsRow one before after (ts ++ t ∷ []) (xs ++ x ∷ [])
-row_step one before mid after ts xs t x done unicode groups matchers sound pattern =
+row_step one before mid after ts xs t x done unicode tables groups matchers sound pattern =
     let more : Extends before.unicode mid.matchers.items after.matchers.items (classes t) = rw done.unicode at matchers in
     record {
       unicode = unicode ∙ done.unicode;
+      tables = (tables.0 ∙ done.tables.0, tables.1 ∙ done.tables.1);
       matchers = rw (classes_more ts t) (extends_both before.unicode _ _ _ (row_classes (trees ts)) (classes t) done.matchers more);
       sound = sound_more xs x done.sound sound;
       groups = λ regular. let both = regular_more ts t regular in omega (arith, groups both.1, done.groups both.0, groups_more ts t);
-      patterns = λ regular gs.
+      patterns = λ regular gs sized.
           let both = regular_more ts t regular in
-          ap₂ (λ (ys : List Re) (y : Re). ys ++ y ∷ []) (done.patterns both.0 gs)
-          (pattern both.1 gs
-          ∙ ap (λ b. one b gs mid.next_group (length mid.matchers.items) t) done.unicode
-          ∙ ap₂ (λ (a b : ℕ). one before.unicode gs a b t) (done.groups both.0) done.matchers.count)
-          ∙ sym (list_more one before.unicode gs ts t before.next_group (length before.matchers.items));
+          let calls = called_in before.called.items in
+          ap₂ (λ (ys : List Re) (y : Re). ys ++ y ∷ []) (done.patterns both.0 gs sized)
+          (pattern both.1 gs (rw done.tables.0 sized)
+          ∙ ap₂ (λ (b : Bool) (called : Vec (Option Callee) Global). one b gs (called_in called.items) mid.next_group (length mid.matchers.items) t) done.unicode done.tables.1
+          ∙ ap₂ (λ (a b : ℕ). one before.unicode gs calls a b t) (done.groups both.0) done.matchers.count)
+          ∙ sym (list_more one before.unicode gs calls ts t before.next_group (length before.matchers.items));
     }
 
 -- the same of the nodes of expressions
 pub nodes_step : (one : TreePattern) (before mid after : Translator) (es : List Expr) (i : ℕ) (e : Expr) (nodes now : List Node) (node : Node) → i < length es
     → e ≡ get_or es i e → now ≡ nodes ++ node ∷ [] → BuildsRow one before mid (map tree_of (take i es)) (shapes nodes)
-    → after.unicode ≡ mid.unicode → (IsRegular (tree_of e) → after.next_group ≡ mid.next_group + group_count (tree_of e))
+    → after.unicode ≡ mid.unicode → (after.sizes ≡ mid.sizes) × (after.called ≡ mid.called)
+    → (IsWritable (tree_of e) → after.next_group ≡ mid.next_group + group_count (tree_of e))
     → Extends mid.unicode mid.matchers.items after.matchers.items (classes (tree_of e)) → IsSound (shape node)
-    → (IsRegular (tree_of e) → (groups : List Tree) → shape node ≡ one mid.unicode groups mid.next_group (length mid.matchers.items) (tree_of e))
+    → IsOneBy one mid (tree_of e) (shape node)
     → BuildsRow one before after (map tree_of (take (i + 1) es)) (shapes now)
-nodes_step one before mid after es i e nodes now node h is added done unicode groups matchers sound pattern =
+nodes_step one before mid after es i e nodes now node h is added done unicode tables groups matchers sound pattern =
     rw (trees_more es i e h is, added, map-append shape nodes (node ∷ []))
-    (row_step one before mid after (map tree_of (take i es)) (shapes nodes) (tree_of e) (shape node) done unicode groups matchers sound pattern)
+    (row_step one before mid after (map tree_of (take i es)) (shapes nodes) (tree_of e) (shape node) done unicode tables groups matchers sound pattern)
 
 -- all of them were
 pub row_whole : (one : TreePattern) (before after : Translator) (es : List Expr) (i : ℕ) (xs : List Re) → length es ≤ i
@@ -319,21 +347,29 @@ module _ (u v w : Bool) (ms ns os : List CharClassMatcher) (c a b : Tree) (same_
       let third : Extends u os ps (classes b) = rw (same_two ∙ same_one) at z in
       extends_both u ms ns ps (classes c) (classes a ++ classes b) x (extends_both u ns os ps (classes a) (classes b) second third)
 
-  pub conditional_shape : (i j l : ℕ) (x y z : Re) → IsRegular (conditional c a b)
-      → (IsRegular c → j ≡ i + group_count c) → (IsRegular a → l ≡ j + group_count a)
+  pub conditional_shape : (sizes_1 sizes_2 sizes_3 : Vec Size Global) (called_1 called_2 called_3 : Vec (Option Callee) Global)
+      → (sizes_2 ≡ sizes_1) × (called_2 ≡ called_1) → (sizes_3 ≡ sizes_2) × (called_3 ≡ called_2)
+      → (i j l : ℕ) (x y z : Re) → IsWritable (conditional c a b)
+      → (IsWritable c → j ≡ i + group_count c) → (IsWritable a → l ≡ j + group_count a)
       → Extends u ms ns (classes c) → Extends v ns os (classes a)
-      → (IsRegular c → (groups : List Tree) → x ≡ re_of u groups i (length ms) c)
-      → (IsRegular a → (groups : List Tree) → y ≡ re_of v groups j (length ns) a)
-      → (IsRegular b → (groups : List Tree) → z ≡ re_of w groups l (length os) b)
-      → (groups : List Tree) → re.conditional x y z ≡ re_of u groups i (length ms) (conditional c a b)
+      → (IsWritable c → (groups : List Tree) → AreCallSizes groups sizes_1.items → x ≡ re_of u groups (called_in called_1.items) i (length ms) c)
+      → (IsWritable a → (groups : List Tree) → AreCallSizes groups sizes_2.items → y ≡ re_of v groups (called_in called_2.items) j (length ns) a)
+      → (IsWritable b → (groups : List Tree) → AreCallSizes groups sizes_3.items → z ≡ re_of w groups (called_in called_3.items) l (length os) b)
+      → (groups : List Tree) → AreCallSizes groups sizes_1.items
+      → re.conditional x y z ≡ re_of u groups (called_in called_1.items) i (length ms) (conditional c a b)
   unfolding re_of
-  conditional_shape i j l x y z p counted counted_two adds adds_two is_x is_y is_z groups =
+  conditional_shape sizes_1 sizes_2 sizes_3 called_1 called_2 called_3 tables_1 tables_2 i j l x y z p counted counted_two adds adds_two is_x is_y is_z groups sized =
       let after : l ≡ i + group_count c + group_count a = omega (arith, counted p.0, counted_two p.1.0) in
       let most : length os ≡ length ms + length (classes c) + length (classes a) = omega (arith, adds.count, adds_two.count) in
-      ap (λ e. re.conditional e y z) (is_x p.0 groups)
-      ∙ ap₂ (λ e f. re.conditional (re_of u groups i (length ms) c) e f)
-      (is_y p.1.0 groups ∙ ap (λ m. re_of m groups j (length ns) a) same_one ∙ ap₂ (λ (m n : ℕ). re_of u groups m n a) (counted p.0) adds.count)
-      (is_z p.1.1 groups ∙ ap (λ m. re_of m groups l (length os) b) (same_two ∙ same_one) ∙ ap₂ (λ (m n : ℕ). re_of u groups m n b) after most)
+      let calls = called_in called_1.items in
+      ap (λ e. re.conditional e y z) (is_x p.0 groups sized)
+      ∙ ap₂ (λ e f. re.conditional (re_of u groups calls i (length ms) c) e f)
+      (is_y p.1.0 groups (rw tables_1.0 sized)
+      ∙ ap₂ (λ (m : Bool) (called : Vec (Option Callee) Global). re_of m groups (called_in called.items) j (length ns) a) same_one tables_1.1
+      ∙ ap₂ (λ (m n : ℕ). re_of u groups calls m n a) (counted p.0) adds.count)
+      (is_z p.1.1 groups (rw (tables_2.0 ∙ tables_1.0) sized)
+      ∙ ap₂ (λ (m : Bool) (called : Vec (Option Callee) Global). re_of m groups (called_in called.items) l (length os) b) (same_two ∙ same_one) (tables_2.1 ∙ tables_1.1)
+      ∙ ap₂ (λ (m n : ℕ). re_of u groups calls m n b) after most)
 
 -- why one of the three has no matcher for each class
 module _ (unicode : Bool) (xs ys zs : List (Text × Bool)) (error : CompileError) where

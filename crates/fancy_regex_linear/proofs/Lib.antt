@@ -20,9 +20,13 @@ pub mod TextEndLemmas
 pub mod MeaningLemmas
 pub mod PassingLemmas
 pub mod SkippedLemmas
-pub mod SameStartLemmas
 pub mod EndLemmas
+pub mod OccurrenceLemmas
+pub mod ApartLemmas
+pub mod CallTableLemmas
 pub mod RegularLemmas
+pub mod SameStartLemmas
+pub mod CallLemmas
 pub mod RegularAnswerLemmas
 pub mod CharTestLemmas
 pub mod ContextLemmas
@@ -32,7 +36,12 @@ pub mod LineEndLemmas
 pub mod NoClassLemmas
 pub mod PartLemmas
 pub mod BuildLemmas
+pub mod CallWeightLemmas
+pub mod DepthLemmas
+pub mod MarkLemmas
+pub mod CalleeLemmas
 pub mod TranslationLemmas
+pub mod WrittenLemmas
 pub mod RegularStateLemmas
 pub mod ServedLemmas
 pub mod ExactLemmas

@@ -14,10 +14,10 @@ use Rattle.fancy_regex_tree.specs.declared.expr.LookAround.{LookAround}
 use Rattle.fancy_regex_tree.specs.declared.expr.LookAround.TheVariants.{LookAhead, LookAheadNeg, LookBehind, LookBehindNeg}
 use Rattle.fancy_regex_meaning.specs.Groups.{group_count}
 use Rattle.fancy_regex_meaning.specs.Sizes.{Size, bound_of, size, size_with, size_through}
-use Rattle.fancy_regex_meaning.specs.Ways.{MatchState, Moves, Pairs, Setting, Meaning, meaning, meanings, all_of, any_of, prefer, due, up_to, loop, character, with_position, match_empty_if, holds}
+use Rattle.fancy_regex_meaning.specs.Ways.{MatchState, Moves, Pairs, Setting, meaning, meanings, all_of, any_of, prefer, due, up_to, loop, character, with_position, match_empty_if, holds}
 use Rattle.fancy_regex_meaning.specs.Ways as ways
 use Rattle.fancy_regex_class.specs.Classes.{folded}
-use Rattle.fancy_regex_linear.specs.Re.{Re, nothing, read, test, cat}
+use Rattle.fancy_regex_linear.specs.Re.{Re, nothing, read, test}
 use Rattle.fancy_regex_linear.specs.Re as re
 use Rattle.fancy_regex_states.specs.Attempts.{View, reads}
 use Rattle.fancy_regex_linear.specs.Meaning.{Spot, each, in_order, after_iteration, loop_ways, times_ways, upto_ways, tail_ways, is_unbounded}
@@ -29,7 +29,7 @@ use Rattle.fancy_regex_states.specs.declared.atom.Leaf.{Leaf}
 use Rattle.fancy_regex_states.specs.declared.atom.Leaf.TheVariants.{Any, Char, Folded, Class}
 use Rattle.fancy_regex_linear.proofs.BoundLemmas.{AllOf, Between, Ends, ways_end, tail_ends}
 use Rattle.fancy_regex_linear.proofs.LookLemmas.{asks, looks_as}
-use Rattle.fancy_regex_linear.proofs.PlainLemmas.{lacks}
+use Rattle.fancy_regex_linear.proofs.PlainLemmas.{plain_regular, below, lacks}
 use Rattle.fancy_regex_linear.proofs.CarryLemmas.{Lacks, put, ways_carry, map_twice}
 
 -- where a way is, with its pairs as places
@@ -283,51 +283,53 @@ module _ (s : Setting) (groups : List Tree) (unicode : Bool) (call : ℕ → Mov
       (delegate class casei) (least_one groups (delegate class casei) tt) how
   look_same n k _ how p h body = absurd p
 
-  pub around_same : (n k : ℕ) (t : Tree) (how : LookAround) (body : Re) → IsOneChar t → StandAt k (classes t)
-      → Same len (ways.look how (meaning s groups call n t)) (plain.ways view len (around unicode groups n k how body t))
-  unfolding around
-  around_same n k (any newline crlf) how body p h = look_same n k (any newline crlf) how p h re.nothing
-  around_same n k (literal val casei) how body p h = look_same n k (literal val casei) how p h re.nothing
-  around_same n k (delegate class casei) how body p h = look_same n k (delegate class casei) how p h re.nothing
-  around_same n k _ how body p h = absurd p
+  -- of a pattern that is made over these bodies
+  module _ (gs : List Tree) (called : ℕ → Re) where
+    pub around_same : (n k : ℕ) (t : Tree) (how : LookAround) (body : Re) → IsOneChar t → StandAt k (classes t)
+        → Same len (ways.look how (meaning s groups call n t)) (plain.ways view len (around unicode gs called n k how body t))
+    unfolding around
+    around_same n k (any newline crlf) how body p h = look_same n k (any newline crlf) how p h re.nothing
+    around_same n k (literal val casei) how body p h = look_same n k (literal val casei) how p h re.nothing
+    around_same n k (delegate class casei) how body p h = look_same n k (delegate class casei) how p h re.nothing
+    around_same n k _ how body p h = absurd p
 
-  mutual
-    unfolding meaning re_of classes plain.ways
+    mutual
+      unfolding meaning re_of classes plain.ways
 
-    -- a plain tree has the ways of its pattern
-    pub tree_same : (n k : ℕ) (t : Tree) → IsPlain t → StandAt k (classes t) → Same len (meaning s groups call n t).from (plain.ways view len (re_of unicode groups n k t))
-    tree_same n k empty p h w q = refl
-    tree_same n k (any newline crlf) p h w q = char_same s cs far (Any newline crlf) w (char_at s.text w.position) refl _ (λ c e. refl)
-    tree_same n k (literal val casei) p h w q = literal_same (slice_index val 0) casei w q
-    tree_same n k (delegate class casei) p h w q = class_same k class casei h w q
-    tree_same n k (assertion a) p h w q = assertion_same a p w q
-    tree_same n k (concat ts) p h w q = row_same n k ts p h w q
-    tree_same n k (alt ts) p h w q = branches_same n k ts p.0 p.1 h w q
-    tree_same n k (group t) p h w q =
-        group_same view len n (meaning s groups call (n + 1) t).from (re_of unicode groups (n + 1) k t) (lacks unicode groups n (n + 1) k t (omega arith))
-        (tree_same (n + 1) k t p h) w q
-    tree_same n k (look_around t how) p h w q = around_same n k t how (re_of unicode groups n k t) p h w q
-    tree_same n k (repeat t lo hi greedy) p h w q =
-        out_by s lo hi greedy (meaning s groups call n t).from view _ (has_no_iteration lo hi) (no_iterations lo hi)
-        (λ made. repeat_same s lo hi greedy (is_unbounded hi) (meaning s groups call n t).from (plain.ways view len (re_of unicode groups n k t)) refl
-        (ways_end view len (re_of unicode groups n k t)) (tree_same n k t p (all_stand k lo hi t made h))) w q
-    tree_same n k _ p h w q = absurd p
+      -- a plain tree has the ways of its pattern
+      pub tree_same : (n k : ℕ) (t : Tree) → IsPlain t → StandAt k (classes t) → Same len (meaning s groups call n t).from (plain.ways view len (re_of unicode gs called n k t))
+      tree_same n k empty p h w q = refl
+      tree_same n k (any newline crlf) p h w q = char_same s cs far (Any newline crlf) w (char_at s.text w.position) refl _ (λ c e. refl)
+      tree_same n k (literal val casei) p h w q = literal_same (slice_index val 0) casei w q
+      tree_same n k (delegate class casei) p h w q = class_same k class casei h w q
+      tree_same n k (assertion a) p h w q = assertion_same a p w q
+      tree_same n k (concat ts) p h w q = row_same n k ts p h w q
+      tree_same n k (alt ts) p h w q = branches_same n k ts p.0 p.1 h w q
+      tree_same n k (group t) p h w q =
+          group_same view len n (meaning s groups call (n + 1) t).from (re_of unicode gs called (n + 1) k t) (lacks unicode gs called n (n + 1) k t (plain_regular _ t p) (below n (n + 1) t (omega arith)))
+          (tree_same (n + 1) k t p h) w q
+      tree_same n k (look_around t how) p h w q = around_same n k t how (re_of unicode gs called n k t) p h w q
+      tree_same n k (repeat t lo hi greedy) p h w q =
+          out_by s lo hi greedy (meaning s groups call n t).from view _ (has_no_iteration lo hi) (no_iterations lo hi)
+          (λ made. repeat_same s lo hi greedy (is_unbounded hi) (meaning s groups call n t).from (plain.ways view len (re_of unicode gs called n k t)) refl
+          (ways_end view len (re_of unicode gs called n k t)) (tree_same n k t p (all_stand k lo hi t made h))) w q
+      tree_same n k _ p h w q = absurd p
 
-    row_same : (n k : ℕ) (ts : Trees) → ArePlain ts → StandAt k (row_classes ts) → Same len (all_of (meanings s groups call n ts)) (plain.ways view len (row_of unicode groups n k ts))
-    row_same n k no_trees p h w q = refl
-    row_same n k (more_trees t ts) p h w q =
-        seq_same len (meaning s groups call n t).from (all_of (meanings s groups call (n + group_count t) ts))
-        (plain.ways view len (re_of unicode groups n k t)) (plain.ways view len (row_of unicode groups (n + group_count t) (k + length (classes t)) ts))
-        (ways_end view len (re_of unicode groups n k t))
-        (tree_same n k t p.0 (stand_left k (classes t) (row_classes ts) h))
-        (row_same (n + group_count t) (k + length (classes t)) ts p.1 (stand_right k (classes t) (row_classes ts) h)) w q
+      row_same : (n k : ℕ) (ts : Trees) → ArePlain ts → StandAt k (row_classes ts) → Same len (all_of (meanings s groups call n ts)) (plain.ways view len (row_of unicode gs called n k ts))
+      row_same n k no_trees p h w q = refl
+      row_same n k (more_trees t ts) p h w q =
+          seq_same len (meaning s groups call n t).from (all_of (meanings s groups call (n + group_count t) ts))
+          (plain.ways view len (re_of unicode gs called n k t)) (plain.ways view len (row_of unicode gs called (n + group_count t) (k + length (classes t)) ts))
+          (ways_end view len (re_of unicode gs called n k t))
+          (tree_same n k t p.0 (stand_left k (classes t) (row_classes ts) h))
+          (row_same (n + group_count t) (k + length (classes t)) ts p.1 (stand_right k (classes t) (row_classes ts) h)) w q
 
-    branches_same : (n k : ℕ) (ts : Trees) → (ts ≢ no_trees) → ArePlain ts → StandAt k (row_classes ts)
-        → Same len (any_of (meanings s groups call n ts)).from (plain.ways view len (branches_of unicode groups n k ts))
-    branches_same n k no_trees some p h w q = absurd (some refl)
-    branches_same n k (more_trees t no_trees) some p h w q =
-        ap (map spot_of) (append-nil ((meaning s groups call n t).from w)) ∙ tree_same n k t p.0 (stand_left k (classes t) (row_classes no_trees) h) w q
-    branches_same n k (more_trees t (more_trees u us)) some p h w q =
-        map-append spot_of ((meaning s groups call n t).from w) ((any_of (meanings s groups call (n + group_count t) (more_trees u us))).from w)
-        ∙ ap₂ ◌++◌ (tree_same n k t p.0 (stand_left k (classes t) (row_classes (more_trees u us)) h) w q)
-        (branches_same (n + group_count t) (k + length (classes t)) (more_trees u us) (λ e. cc) p.1 (stand_right k (classes t) (row_classes (more_trees u us)) h) w q)
+      branches_same : (n k : ℕ) (ts : Trees) → (ts ≢ no_trees) → ArePlain ts → StandAt k (row_classes ts)
+          → Same len (any_of (meanings s groups call n ts)).from (plain.ways view len (branches_of unicode gs called n k ts))
+      branches_same n k no_trees some p h w q = absurd (some refl)
+      branches_same n k (more_trees t no_trees) some p h w q =
+          ap (map spot_of) (append-nil ((meaning s groups call n t).from w)) ∙ tree_same n k t p.0 (stand_left k (classes t) (row_classes no_trees) h) w q
+      branches_same n k (more_trees t (more_trees u us)) some p h w q =
+          map-append spot_of ((meaning s groups call n t).from w) ((any_of (meanings s groups call (n + group_count t) (more_trees u us))).from w)
+          ∙ ap₂ ◌++◌ (tree_same n k t p.0 (stand_left k (classes t) (row_classes (more_trees u us)) h) w q)
+          (branches_same (n + group_count t) (k + length (classes t)) (more_trees u us) (λ e. cc) p.1 (stand_right k (classes t) (row_classes (more_trees u us)) h) w q)

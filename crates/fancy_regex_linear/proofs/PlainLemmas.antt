@@ -1,18 +1,17 @@
 -- What the pattern of a tree is: sound, numbered from its first group on and, of a plain tree, no heavier than it.
 use Rattle.std.proofs.Common.{◌≡◌, ◌≢◌, ℕ, zero, suc, ◌+◌, ◌*◌, ◌-◌, ◌<◌, ◌≤◌, ◌==◌, min, max, Bool, true, false, cond, not, ◌&&◌, ◌||◌, if◌then◌else◌, List, [], ◌∷◌, length, Option, Some, None, nat_lt, refl, sym, ap, ap₂, ◌∙◌, arith, eq-eqb, ne_eqb, lt-ltb, true≢false}
 use Rattle.std.proofs.Math.Nat.{mul-le-mul_left}
-use Rattle.fancy_regex_tree.specs.Tree.{Tree, Trees, empty, any, assertion, general_newline, literal, concat, alt, group, look_around, repeat, delegate, atomic_group, conditional, verb, continue, define_group, no_trees, more_trees}
+use Rattle.fancy_regex_tree.specs.Tree.{Tree, Trees, empty, any, assertion, general_newline, literal, concat, alt, group, look_around, repeat, delegate, atomic_group, conditional, verb, continue, define_group, subroutine_call, no_trees, more_trees}
 use Rattle.fancy_regex_tree.specs.declared.expr.Assertion.{Assertion}
 use Rattle.fancy_regex_tree.specs.declared.expr.LookAround.{LookAround}
-use Rattle.fancy_regex_tree.specs.declared.expr.LookAround.TheVariants as L
 use Rattle.fancy_regex_meaning.specs.Groups.{group_count}
-use Rattle.fancy_regex_meaning.specs.Sizes.{Size, size_with, concat_size, alternation_size, size, size_through, may_be_empty, unbounded, bound_of, weights, branch_gaps}
+use Rattle.fancy_regex_meaning.specs.Sizes.{Size, size_with, concat_size, alternation_size, size, size_through, may_be_empty, unbounded, weights, branch_gaps}
 use Rattle.fancy_regex_meaning.specs.Sizes as sizes
-use Rattle.fancy_regex_linear.specs.Re.{Re, nothing, read, test, cat}
+use Rattle.fancy_regex_linear.specs.Re.{Re}
 use Rattle.fancy_regex_linear.specs.Re as re
 use Rattle.fancy_regex_linear.specs.Meaning.{is_unbounded}
 use Rattle.fancy_regex_linear.specs.Program.{never_empty, IsSound, MayAskIn, weight, repeat_weight}
-use Rattle.fancy_regex_linear.specs.Plain.{IsPlain, ArePlain, IsRegular, AreRegular, IsOneChar, IsServed, test_of, ends_by_crlf, newline_re, last_newline, text_end_re, served, joined, is_negated_look, is_look_behind, steps_back, looked, around, each_around, char_leaf, char_classes, has_no_iteration, unless, classes, re_of, row_of, branches_of}
+use Rattle.fancy_regex_linear.specs.Plain.{IsPlain, ArePlain, IsRegular, AreRegular, IsOneChar, IsServed, test_of, ends_by_crlf, newline_re, text_end_re, served, joined, is_negated_look, is_look_behind, steps_back, looked, around, each_around, char_leaf, char_classes, has_no_iteration, unless, classes, re_of, row_of, branches_of}
 use Rattle.fancy_regex_states.specs.declared.atom.Leaf.{Leaf}
 use Rattle.fancy_regex_states.specs.declared.atom.Test.{Test}
 use Rattle.fancy_regex_linear.proofs.CarryLemmas.{Lacks}
@@ -126,15 +125,15 @@ if_has P true x y h k = h
 if_has P false x y h k = k
 
 -- a tree of one character becomes a pattern with parts
-one_char_regular : (t : Tree) → IsOneChar t → IsRegular t
-one_char_regular (any newline crlf) p = tt
-one_char_regular (literal val casei) p = tt
-one_char_regular (delegate class casei) p = tt
-one_char_regular _ p = absurd p
+one_char_regular : (called : ℕ → Type 0) (t : Tree) → IsOneChar t → IsRegular called t
+one_char_regular called (any newline crlf) p = tt
+one_char_regular called (literal val casei) p = tt
+one_char_regular called (delegate class casei) p = tt
+one_char_regular called _ p = absurd p
 
 -- so does a look-around for one character
-one_char_look : (t : Tree) (how : LookAround) → IsOneChar t → IsRegular (look_around t how)
-one_char_look t how p = one_char_regular t p
+one_char_look : (called : ℕ → Type 0) (t : Tree) (how : LookAround) → IsOneChar t → IsRegular called (look_around t how)
+one_char_look called t how p = one_char_regular called t p
 
 -- a tree of one character has a test
 pub has_leaf : (unicode : Bool) (k : ℕ) (t : Tree) → IsOneChar t → char_leaf unicode k t ≡ None → ⊥
@@ -151,35 +150,90 @@ one_char_classes (literal val casei) p = refl
 one_char_classes (delegate class casei) p = refl
 one_char_classes _ p = absurd p
 
--- a plain tree becomes a pattern with parts
-mutual
-  pub plain_regular : (t : Tree) → IsPlain t → IsRegular t
-  plain_regular empty p = tt
-  plain_regular (any newline crlf) p = tt
-  plain_regular (literal val casei) p = tt
-  plain_regular (delegate class casei) p = tt
-  plain_regular (assertion a) p = tt
-  plain_regular (concat ts) p = all_regular ts p
-  plain_regular (alt ts) p = (p.0, all_regular ts p.1)
-  plain_regular (group t) p = plain_regular t p
-  plain_regular (look_around t how) p = one_char_look t how p
-  plain_regular (repeat t lo hi greedy) p = plain_regular t p
-  plain_regular _ p = absurd p
+-- a plain tree becomes a pattern with parts, whatever its calls are: it has none
+module _ (called : ℕ → Type 0) where
+  mutual
+    pub plain_regular : (t : Tree) → IsPlain t → IsRegular called t
+    plain_regular empty p = tt
+    plain_regular (any newline crlf) p = tt
+    plain_regular (literal val casei) p = tt
+    plain_regular (delegate class casei) p = tt
+    plain_regular (assertion a) p = tt
+    plain_regular (concat ts) p = all_regular ts p
+    plain_regular (alt ts) p = (p.0, all_regular ts p.1)
+    plain_regular (group t) p = plain_regular t p
+    plain_regular (look_around t how) p = one_char_look called t how p
+    plain_regular (repeat t lo hi greedy) p = λ made. plain_regular t p
+    plain_regular _ p = absurd p
 
-  all_regular : (ts : Trees) → ArePlain ts → AreRegular ts
-  all_regular no_trees p = tt
-  all_regular (more_trees t ts) p = (plain_regular t p.0, all_regular ts p.1)
+    all_regular : (ts : Trees) → ArePlain ts → AreRegular called ts
+    all_regular no_trees p = tt
+    all_regular (more_trees t ts) p = (plain_regular t p.0, all_regular ts p.1)
+
+-- a regular tree is one where its calls are so in another way
+module _ (called other : ℕ → Type 0) (into : (j : ℕ) → called j → other j) where
+  mutual
+    pub regular_into : (t : Tree) → IsRegular called t → IsRegular other t
+    regular_into empty p = tt
+    regular_into (any newline crlf) p = tt
+    regular_into (literal val casei) p = tt
+    regular_into (delegate class casei) p = tt
+    regular_into (general_newline wide) p = tt
+    regular_into (assertion a) p = tt
+    regular_into (concat ts) p = all_into ts p
+    regular_into (alt ts) p = (p.0, all_into ts p.1)
+    regular_into (group t) p = regular_into t p
+    regular_into (look_around t how) p = regular_into t p
+    regular_into (atomic_group t) p = regular_into t p
+    regular_into (conditional c a b) p = (regular_into c p.0, (regular_into a p.1.0, regular_into b p.1.1))
+    regular_into (define_group t) p = tt
+    regular_into (verb v) p = p
+    regular_into continue p = tt
+    regular_into (subroutine_call j) p = into j p
+    regular_into (repeat t lo hi greedy) p = λ made. regular_into t (p made)
+    regular_into _ p = absurd p
+
+    pub all_into : (ts : Trees) → AreRegular called ts → AreRegular other ts
+    all_into no_trees p = tt
+    all_into (more_trees t ts) p = (regular_into t p.0, all_into ts p.1)
+
+-- a tree that is regular where its calls are so, and where they are so in another way, is where they are so in both
+module _ (called other : ℕ → Type 0) where
+  mutual
+    pub regular_both : (t : Tree) → IsRegular called t → IsRegular other t → IsRegular (λ j. called j × other j) t
+    regular_both empty p q = tt
+    regular_both (any newline crlf) p q = tt
+    regular_both (literal val casei) p q = tt
+    regular_both (delegate class casei) p q = tt
+    regular_both (general_newline wide) p q = tt
+    regular_both (assertion a) p q = tt
+    regular_both (concat ts) p q = all_both ts p q
+    regular_both (alt ts) p q = (p.0, all_both ts p.1 q.1)
+    regular_both (group t) p q = regular_both t p q
+    regular_both (look_around t how) p q = regular_both t p q
+    regular_both (atomic_group t) p q = regular_both t p q
+    regular_both (conditional c a b) p q = (regular_both c p.0 q.0, (regular_both a p.1.0 q.1.0, regular_both b p.1.1 q.1.1))
+    regular_both (define_group t) p q = tt
+    regular_both (verb v) p q = p
+    regular_both continue p q = tt
+    regular_both (subroutine_call j) p q = (p, q)
+    regular_both (repeat t lo hi greedy) p q = λ made. regular_both t (p made) (q made)
+    regular_both _ p q = absurd p
+
+    all_both : (ts : Trees) → AreRegular called ts → AreRegular other ts → AreRegular (λ j. called j × other j) ts
+    all_both no_trees p q = tt
+    all_both (more_trees t ts) p q = (regular_both t p.0 q.0, all_both ts p.1 q.1)
 
 -- a look-around for one character is a test
-module _ (unicode : Bool) (groups : List Tree) (n k : ℕ) (how : LookAround) (body : Re) where
-  look_light : (t : Tree) → IsOneChar t → weight (around unicode groups n k how body t) ≤ 1
+module _ (unicode : Bool) (groups : List Tree) (called : ℕ → Re) (n k : ℕ) (how : LookAround) (body : Re) where
+  look_light : (t : Tree) → IsOneChar t → weight (around unicode groups called n k how body t) ≤ 1
   unfolding weight around
   look_light (any newline crlf) p = omega arith
   look_light (literal val casei) p = omega arith
   look_light (delegate class casei) p = omega arith
   look_light _ p = absurd p
 
-  look_may : (t : Tree) → IsOneChar t → MayAskIn false (around unicode groups n k how body t)
+  look_may : (t : Tree) → IsOneChar t → MayAskIn false (around unicode groups called n k how body t)
   unfolding around
   look_may (any newline crlf) p = tt
   look_may (literal val casei) p = tt
@@ -195,83 +249,117 @@ one_char_groups (delegate class casei) p = refl
 one_char_groups _ p = absurd p
 
 -- a repeat that is left out
-out_lacks : (m : ℕ) (b : Bool) (x : Re) → Lacks m x → Lacks m (unless b x)
+out_lacks : (m : ℕ) (b : Bool) (x : Re) → (b ≡ false → Lacks m x) → Lacks m (unless b x)
 out_lacks m true x h = tt
-out_lacks m false x h = h
+out_lacks m false x h = h refl
 
 out_may : (b : Bool) (x : Re) → MayAskIn false x → MayAskIn false (unless b x)
 out_may true x h = tt
 out_may false x h = h
 
-out_sound : (b : Bool) (x : Re) → IsSound x → IsSound (unless b x)
+out_sound : (b : Bool) (x : Re) → (b ≡ false → IsSound x) → IsSound (unless b x)
 out_sound true x h = tt
-out_sound false x h = h
+out_sound false x h = h refl
 
 out_light : (b : Bool) (x : Re) (n : ℕ) → weight x ≤ n → weight (unless b x) ≤ n
 unfolding weight
 out_light true x n h = omega arith
 out_light false x n h = h
 
--- a repeat without iterations is never sure to move
-out_moves : (lo hi : ℕ) (greedy strict : Bool) (x : Re) → never_empty (unless (has_no_iteration lo hi) (re.repeat lo hi greedy strict x)) ≡ (nat_lt 0 lo && never_empty x)
-out_moves zero zero greedy strict x = refl
-out_moves zero (suc hi) greedy strict x = rw (ne_eqb (suc hi) 0 (omega arith)) refl
-out_moves (suc lo) hi greedy strict x = rw (ne_eqb (suc lo) 0 (omega arith)) refl
+-- no group of the tree has this number, where the first one has that
+module _ (m : ℕ) where
+  abbrev mutual
+    pub Misses : ℕ → Tree → Type 0
+    Misses n (group t) = (m ≡ n → ⊥) × Misses (n + 1) t
+    Misses n (concat ts) = MissesRow n ts
+    Misses n (alt ts) = MissesRow n ts
+    Misses n (look_around t how) = Misses n t
+    Misses n (atomic_group t) = Misses n t
+    Misses n (conditional c a b) = Misses n c × (Misses (n + group_count c) a × Misses (n + group_count c + group_count a) b)
+    Misses n (repeat t lo hi greedy) = has_no_iteration lo hi ≡ false → Misses n t
+    Misses n _ = Unit {0}
 
-module _ (unicode : Bool) (groups : List Tree) where
+    pub MissesRow : ℕ → Trees → Type 0
+    MissesRow n no_trees = Unit {0}
+    MissesRow n (more_trees t ts) = Misses n t × MissesRow (n + group_count t) ts
+
+  -- one before the first
+  mutual
+    pub below : (n : ℕ) (t : Tree) → m < n → Misses n t
+    below n (group t) h = ((λ e. omega arith), below (n + 1) t (omega arith))
+    below n (concat ts) h = row_below n ts h
+    below n (alt ts) h = row_below n ts h
+    below n (look_around t how) h = below n t h
+    below n (atomic_group t) h = below n t h
+    below n (conditional c a b) h = (below n c h, (below (n + group_count c) a (omega arith), below (n + group_count c + group_count a) b (omega arith)))
+    below n (repeat t lo hi greedy) h = λ made. below n t h
+    below n _ h = tt
+
+    row_below : (n : ℕ) (ts : Trees) → m < n → MissesRow n ts
+    row_below n no_trees h = tt
+    row_below n (more_trees t ts) h = (below n t h, row_below (n + group_count t) ts (omega arith))
+
+module _ (unicode : Bool) (groups : List Tree) (called : ℕ → Re) (m : ℕ) where
+  -- what is called lacks the group
+  abbrev pub CallLacks : ℕ → Type 0
+  CallLacks j = Lacks m (called j)
+
   mutual
     unfolding re_of around each_around
 
-    -- groups before the first are not in it
-    pub lacks : (m n k : ℕ) (t : Tree) → m < n → Lacks m (re_of unicode groups n k t)
-    lacks m n k empty h = tt
-    lacks m n k (any newline crlf) h = tt
-    lacks m n k (literal val casei) h = tt
-    lacks m n k (delegate class casei) h = tt
-    lacks m n k (general_newline wide) h = lacks_newline m wide
-    lacks m n k (assertion a) h = lacks_served m a (test_of a)
-    lacks m n k (concat ts) h = row_lacks m n k ts h
-    lacks m n k (alt ts) h = branches_lack m n k ts h
-    lacks m n k (look_around t how) h = around_lacks m n k how (re_of unicode groups n k t) t h (lacks m n k t h)
-    lacks m n k (atomic_group t) h = lacks m n k t h
-    lacks m n k (conditional c a b) h = (lacks m n k c h, (lacks m _ _ a (omega arith), lacks m _ _ b (omega arith)))
-    lacks m n k (verb v) h = tt
-    lacks m n k continue h = tt
-    lacks m n k (group t) h = (λ e. omega arith, lacks m (n + 1) k t (omega arith))
-    lacks m n k (repeat t lo hi greedy) h = out_lacks m (has_no_iteration lo hi) _ (lacks m n k t h)
-    lacks m n k _ h = tt
+    -- a group that is not in the tree and is not written by its calls is not in the pattern
+    pub lacks : (n k : ℕ) (t : Tree) → IsRegular CallLacks t → Misses m n t → Lacks m (re_of unicode groups called n k t)
+    lacks n k empty p h = tt
+    lacks n k (any newline crlf) p h = tt
+    lacks n k (literal val casei) p h = tt
+    lacks n k (delegate class casei) p h = tt
+    lacks n k (general_newline wide) p h = lacks_newline m wide
+    lacks n k (assertion a) p h = lacks_served m a (test_of a)
+    lacks n k (concat ts) p h = row_lacks n k ts p h
+    lacks n k (alt ts) p h = branches_lack n k ts p.1 h
+    lacks n k (look_around t how) p h = around_lacks n k how (re_of unicode groups called n k t) t p h (lacks n k t p h)
+    lacks n k (atomic_group t) p h = lacks n k t p h
+    lacks n k (conditional c a b) p h = (lacks n k c p.0 h.0, (lacks _ _ a p.1.0 h.1.0, lacks _ _ b p.1.1 h.1.1))
+    lacks n k (define_group t) p h = tt
+    lacks n k (verb v) p h = tt
+    lacks n k continue p h = tt
+    lacks n k (subroutine_call j) p h = p
+    lacks n k (group t) p h = (h.0, lacks (n + 1) k t p h.1)
+    lacks n k (repeat t lo hi greedy) p h = out_lacks m (has_no_iteration lo hi) _ (λ made. lacks n k t (p made) (h made))
+    lacks n k _ p h = absurd p
 
-    row_lacks : (m n k : ℕ) (ts : Trees) → m < n → Lacks m (row_of unicode groups n k ts)
-    row_lacks m n k no_trees h = tt
-    row_lacks m n k (more_trees t ts) h = (lacks m n k t h, row_lacks m _ _ ts (omega arith))
+    row_lacks : (n k : ℕ) (ts : Trees) → AreRegular CallLacks ts → MissesRow m n ts → Lacks m (row_of unicode groups called n k ts)
+    row_lacks n k no_trees p h = tt
+    row_lacks n k (more_trees t ts) p h = (lacks n k t p.0 h.0, row_lacks _ _ ts p.1 h.1)
 
-    branches_lack : (m n k : ℕ) (ts : Trees) → m < n → Lacks m (branches_of unicode groups n k ts)
-    branches_lack m n k no_trees h = tt
-    branches_lack m n k (more_trees t no_trees) h = lacks m n k t h
-    branches_lack m n k (more_trees t (more_trees u us)) h = (lacks m n k t h, branches_lack m _ _ (more_trees u us) (omega arith))
+    branches_lack : (n k : ℕ) (ts : Trees) → AreRegular CallLacks ts → MissesRow m n ts → Lacks m (branches_of unicode groups called n k ts)
+    branches_lack n k no_trees p h = tt
+    branches_lack n k (more_trees t no_trees) p h = lacks n k t p.0 h.0
+    branches_lack n k (more_trees t (more_trees u us)) p h = (lacks n k t p.0 h.0, branches_lack _ _ (more_trees u us) p.1 h.1)
 
-    around_lacks : (m n k : ℕ) (how : LookAround) (body : Re) (t : Tree) → m < n → Lacks m body → Lacks m (around unicode groups n k how body t)
-    around_lacks m n k how body (alt ts) h b =
+    around_lacks : (n k : ℕ) (how : LookAround) (body : Re) (t : Tree) → IsRegular CallLacks t → Misses m n t → Lacks m body
+        → Lacks m (around unicode groups called n k how body t)
+    around_lacks n k how body (alt ts) p h b =
         if_has (Lacks m) (is_look_behind how && not (size groups (alt ts)).always) _ _
-        (joined_lack m (is_negated_look how) (each_around unicode groups n k how ts) (each_lack m n k how ts h)) b
-    around_lacks m n k how body t h b = lacks_looked m how (char_leaf unicode k t) (re.ask (is_negated_look how) (steps_back groups how t) body) b
+        (joined_lack m (is_negated_look how) (each_around unicode groups called n k how ts) (each_lack n k how ts p.1 h)) b
+    around_lacks n k how body t p h b = lacks_looked m how (char_leaf unicode k t) (re.ask (is_negated_look how) (steps_back groups how t) body) b
 
-    each_lack : (m n k : ℕ) (how : LookAround) (ts : Trees) → m < n → AllOf (Lacks m) (each_around unicode groups n k how ts)
-    each_lack m n k how no_trees h = tt
-    each_lack m n k how (more_trees t ts) h = (around_lacks m n k how _ t h (lacks m n k t h), each_lack m _ _ how ts (omega arith))
+    each_lack : (n k : ℕ) (how : LookAround) (ts : Trees) → AreRegular CallLacks ts → MissesRow m n ts → AllOf (Lacks m) (each_around unicode groups called n k how ts)
+    each_lack n k how no_trees p h = tt
+    each_lack n k how (more_trees t ts) p h = (around_lacks n k how _ t p.0 h.0 (lacks n k t p.0 h.0), each_lack _ _ how ts p.1 h.1)
 
 -- a look-around is never sure to move
-module _ (unicode : Bool) (groups : List Tree) where
+module _ (unicode : Bool) (groups : List Tree) (called : ℕ → Re) where
   mutual
     unfolding around each_around
 
-    pub around_still : (n k : ℕ) (how : LookAround) (body : Re) (t : Tree) → never_empty (around unicode groups n k how body t) ≡ false
+    pub around_still : (n k : ℕ) (how : LookAround) (body : Re) (t : Tree) → never_empty (around unicode groups called n k how body t) ≡ false
     around_still n k how body (alt ts) =
         if_has IsStill (is_look_behind how && not (size groups (alt ts)).always) _ _
-        (joined_still (is_negated_look how) (each_around unicode groups n k how ts) (each_still n k how ts)) refl
+        (joined_still (is_negated_look how) (each_around unicode groups called n k how ts) (each_still n k how ts)) refl
     around_still n k how body t = never_looked how (char_leaf unicode k t) (re.ask (is_negated_look how) (steps_back groups how t) body) refl
 
-    pub each_still : (n k : ℕ) (how : LookAround) (ts : Trees) → AllOf IsStill (each_around unicode groups n k how ts)
+    pub each_still : (n k : ℕ) (how : LookAround) (ts : Trees) → AllOf IsStill (each_around unicode groups called n k how ts)
     each_still n k how no_trees = tt
     each_still n k how (more_trees t ts) = (around_still n k how _ t, each_still _ _ how ts)
 
@@ -306,12 +394,20 @@ zero_test : (n : ℕ) → (n == 0) ≡ not (nat_lt 0 n)
 zero_test zero = refl
 zero_test (suc n) = ne_eqb (suc n) 0 (omega arith) ∙ sym (ap not (lt-ltb 0 (suc n) (omega arith)))
 
-module _ (unicode : Bool) (groups : List Tree) (call : ℕ → Size) where
+-- a repeat may be empty exactly where its pattern may
+repeat_empties : (lo hi least : ℕ) (greedy : Bool) (x : Re) → (b : Bool) → has_no_iteration lo hi ≡ b → (b ≡ false → (least == 0) ≡ not (never_empty x))
+    → (min unbounded (lo * least) == 0) ≡ not (never_empty (unless b (re.repeat lo hi greedy (never_empty x) x)))
+repeat_empties zero hi least greedy x true e h = eq-eqb _ 0 (omega arith)
+repeat_empties (suc lo) hi least greedy x true e h = absurd (true≢false (sym e ∙ ap (λ b. b && (hi == 0)) (ne_eqb (suc lo) 0 (omega arith))))
+repeat_empties lo hi least greedy x false e h = product_zero lo least ∙ ap₂ ◌||◌ (zero_test lo) (h refl) ∙ not_and (nat_lt 0 lo) (never_empty x)
+
+module _ (unicode : Bool) (groups : List Tree) (called : ℕ → Re) (call : ℕ → Size) (known : ℕ → Type 0)
+    (call_empties : (j : ℕ) → known j → ((call j).least == 0) ≡ not (never_empty (called j))) where
   mutual
     unfolding re_of size_with
 
     -- a tree may be empty exactly where its pattern may
-    empties : (n k : ℕ) (t : Tree) → IsRegular t → ((size_with call t).least == 0) ≡ not (never_empty (re_of unicode groups n k t))
+    pub empties : (n k : ℕ) (t : Tree) → IsRegular known t → ((size_with call t).least == 0) ≡ not (never_empty (re_of unicode groups called n k t))
     empties n k empty p = refl
     empties n k (any newline crlf) p = refl
     empties n k (literal val casei) p = refl
@@ -321,7 +417,7 @@ module _ (unicode : Bool) (groups : List Tree) (call : ℕ → Size) where
     empties n k (concat ts) p = row_empties n k ts p
     empties n k (alt ts) p = branch_empties n k ts p.0 p.1
     empties n k (group t) p = empties (n + 1) k t p
-    empties n k (look_around t how) p = sym (ap not (around_still unicode groups n k how (re_of unicode groups n k t) t))
+    empties n k (look_around t how) p = sym (ap not (around_still unicode groups called n k how (re_of unicode groups called n k t) t))
     empties n k (atomic_group t) p = empties n k t p
     empties n k (conditional c a b) p =
         least_zero (min unbounded ((size_with call c).least + (size_with call a).least)) (size_with call b).least
@@ -332,23 +428,24 @@ module _ (unicode : Bool) (groups : List Tree) (call : ℕ → Size) where
     empties n k (define_group t) p = refl
     empties n k (verb v) p = refl
     empties n k continue p = refl
+    empties n k (subroutine_call j) p = call_empties j p
     empties n k (repeat t lo hi greedy) p =
-        product_zero lo (size_with call t).least ∙ ap₂ ◌||◌ (zero_test lo) (empties n k t p) ∙ not_and (nat_lt 0 lo) _ ∙ sym (ap not (out_moves lo hi greedy _ _))
+        repeat_empties lo hi (size_with call t).least greedy (re_of unicode groups called n k t) (has_no_iteration lo hi) refl (λ made. empties n k t (p made))
     empties n k _ p = absurd p
 
-    row_empties : (n k : ℕ) (ts : Trees) → AreRegular ts → ((concat_size call ts).least == 0) ≡ not (never_empty (row_of unicode groups n k ts))
+    row_empties : (n k : ℕ) (ts : Trees) → AreRegular known ts → ((concat_size call ts).least == 0) ≡ not (never_empty (row_of unicode groups called n k ts))
     row_empties n k no_trees p = refl
     row_empties n k (more_trees t ts) p =
         sum_zero (size_with call t).least (concat_size call ts).least ∙ ap₂ ◌&&◌ (empties n k t p.0) (row_empties _ _ ts p.1) ∙ not_or _ _
 
-    branch_empties : (n k : ℕ) (ts : Trees) → (ts ≢ no_trees) → AreRegular ts → ((alternation_size call ts).least == 0) ≡ not (never_empty (branches_of unicode groups n k ts))
+    branch_empties : (n k : ℕ) (ts : Trees) → (ts ≢ no_trees) → AreRegular known ts → ((alternation_size call ts).least == 0) ≡ not (never_empty (branches_of unicode groups called n k ts))
     branch_empties n k no_trees some p = absurd (some refl)
     branch_empties n k (more_trees t no_trees) some p = empties n k t p.0
     branch_empties n k (more_trees t (more_trees u us)) some p =
         least_zero (size_with call t).least (alternation_size call (more_trees u us)).least
         ∙ ap₂ ◌||◌ (empties n k t p.0) (branch_empties _ _ (more_trees u us) (λ e. cc) p.1) ∙ not_and _ _
 
-not_twice : (b : Bool) → not (not b) ≡ b
+pub not_twice : (b : Bool) → not (not b) ≡ b
 not_twice true = refl
 not_twice false = refl
 
@@ -357,26 +454,29 @@ not_not true c e h = absurd (true≢false (sym h))
 not_not false true e h = refl
 not_not false false e h = absurd (true≢false (sym e))
 
-module _ (unicode : Bool) (groups : List Tree) where
-  empties_through : (m n k : ℕ) (t : Tree) → IsRegular t → ((size_through groups m t).least == 0) ≡ not (never_empty (re_of unicode groups n k t))
+-- no call is known
+abbrev pub NoCall : ℕ → Type 0
+NoCall j = ⊥
+
+module _ (unicode : Bool) (groups : List Tree) (called : ℕ → Re) where
+  empties_through : (all : List Tree) (m n k : ℕ) (t : Tree) → IsRegular NoCall t → ((size_through all m t).least == 0) ≡ not (never_empty (re_of unicode groups called n k t))
   unfolding size_through
-  empties_through zero n k t p = empties unicode groups _ n k t p
-  empties_through (suc m) n k t p = empties unicode groups _ n k t p
+  empties_through all zero n k t p = empties unicode groups called _ NoCall (λ j none. absurd none) n k t p
+  empties_through all (suc m) n k t p = empties unicode groups called _ NoCall (λ j none. absurd none) n k t p
 
-  -- the body of a repeat that may not be empty never is
-  never : (n k : ℕ) (t : Tree) → IsRegular t → not (may_be_empty groups t) ≡ true → never_empty (re_of unicode groups n k t) ≡ true
+  -- a tree without calls is never empty where it may not be
+  pub flag_is : (all : List Tree) (n k : ℕ) (t : Tree) → IsRegular NoCall t → not (may_be_empty all t) ≡ never_empty (re_of unicode groups called n k t)
   unfolding size
-  never n k t p h = not_not _ _ (empties_through (length groups) n k t p) h
+  flag_is all n k t p = ap not (empties_through all (length all) n k t p) ∙ not_twice _
 
-  -- and one that may not be is never empty
-  pub flag_is : (n k : ℕ) (t : Tree) → IsRegular t → not (may_be_empty groups t) ≡ never_empty (re_of unicode groups n k t)
-  unfolding size
-  flag_is n k t p = ap not (empties_through (length groups) n k t p) ∙ not_twice _
+  -- what is called is sound
+  abbrev CallSound : ℕ → Type 0
+  CallSound j = IsSound (called j)
 
   mutual
     unfolding re_of around each_around
 
-    pub regular_sound : (n k : ℕ) (t : Tree) → IsRegular t → IsSound (re_of unicode groups n k t)
+    pub regular_sound : (n k : ℕ) (t : Tree) → IsRegular CallSound t → IsSound (re_of unicode groups called n k t)
     regular_sound n k empty p = tt
     regular_sound n k (any newline crlf) p = tt
     regular_sound n k (literal val casei) p = tt
@@ -386,42 +486,43 @@ module _ (unicode : Bool) (groups : List Tree) where
     regular_sound n k (concat ts) p = row_sound n k ts p
     regular_sound n k (alt ts) p = branches_sound n k ts p.1
     regular_sound n k (group t) p = regular_sound (n + 1) k t p
-    regular_sound n k (look_around t how) p = around_sound n k how (re_of unicode groups n k t) t p (regular_sound n k t p)
+    regular_sound n k (look_around t how) p = around_sound n k how (re_of unicode groups called n k t) t p (regular_sound n k t p)
     regular_sound n k (atomic_group t) p = regular_sound n k t p
     regular_sound n k (conditional c a b) p = (regular_sound n k c p.0, (regular_sound _ _ a p.1.0, regular_sound _ _ b p.1.1))
     regular_sound n k (define_group t) p = tt
     regular_sound n k (verb v) p = tt
     regular_sound n k continue p = tt
-    regular_sound n k (repeat t lo hi greedy) p = out_sound (has_no_iteration lo hi) _ (never n k t p, regular_sound n k t p)
+    regular_sound n k (subroutine_call j) p = p
+    regular_sound n k (repeat t lo hi greedy) p = out_sound (has_no_iteration lo hi) _ (λ made. (λ moves. moves, regular_sound n k t (p made)))
     regular_sound n k _ p = absurd p
 
-    row_sound : (n k : ℕ) (ts : Trees) → AreRegular ts → IsSound (row_of unicode groups n k ts)
+    row_sound : (n k : ℕ) (ts : Trees) → AreRegular CallSound ts → IsSound (row_of unicode groups called n k ts)
     row_sound n k no_trees p = tt
     row_sound n k (more_trees t ts) p = (regular_sound n k t p.0, row_sound _ _ ts p.1)
 
-    branches_sound : (n k : ℕ) (ts : Trees) → AreRegular ts → IsSound (branches_of unicode groups n k ts)
+    branches_sound : (n k : ℕ) (ts : Trees) → AreRegular CallSound ts → IsSound (branches_of unicode groups called n k ts)
     branches_sound n k no_trees p = tt
     branches_sound n k (more_trees t no_trees) p = regular_sound n k t p.0
     branches_sound n k (more_trees t (more_trees u us)) p = (regular_sound n k t p.0, branches_sound _ _ (more_trees u us) p.1)
 
-    around_sound : (n k : ℕ) (how : LookAround) (body : Re) (t : Tree) → IsRegular t → IsSound body → IsSound (around unicode groups n k how body t)
+    around_sound : (n k : ℕ) (how : LookAround) (body : Re) (t : Tree) → IsRegular CallSound t → IsSound body → IsSound (around unicode groups called n k how body t)
     around_sound n k how body (alt ts) p b =
         if_has IsSound (is_look_behind how && not (size groups (alt ts)).always) _ _
-        (joined_sound (is_negated_look how) (each_around unicode groups n k how ts) (each_sound n k how ts p.1)) b
+        (joined_sound (is_negated_look how) (each_around unicode groups called n k how ts) (each_sound n k how ts p.1)) b
     around_sound n k how body t p b = sound_looked how (char_leaf unicode k t) (re.ask (is_negated_look how) (steps_back groups how t) body) b
 
-    each_sound : (n k : ℕ) (how : LookAround) (ts : Trees) → AreRegular ts → AllOf IsSound (each_around unicode groups n k how ts)
+    each_sound : (n k : ℕ) (how : LookAround) (ts : Trees) → AreRegular CallSound ts → AllOf IsSound (each_around unicode groups called n k how ts)
     each_sound n k how no_trees p = tt
     each_sound n k how (more_trees t ts) p = (around_sound n k how _ t p.0 (regular_sound n k t p.0), each_sound _ _ how ts p.1)
 
-  pub sound : (n k : ℕ) (t : Tree) → IsPlain t → IsSound (re_of unicode groups n k t)
-  sound n k t p = regular_sound n k t (plain_regular t p)
+  pub sound : (n k : ℕ) (t : Tree) → IsPlain t → IsSound (re_of unicode groups called n k t)
+  sound n k t p = regular_sound n k t (plain_regular CallSound t p)
 
   mutual
     unfolding re_of
 
     -- the pattern of a plain tree asks no parts
-    pub plain_may : (n k : ℕ) (t : Tree) → IsPlain t → MayAskIn false (re_of unicode groups n k t)
+    pub plain_may : (n k : ℕ) (t : Tree) → IsPlain t → MayAskIn false (re_of unicode groups called n k t)
     plain_may n k empty p = tt
     plain_may n k (any newline crlf) p = tt
     plain_may n k (literal val casei) p = tt
@@ -430,52 +531,54 @@ module _ (unicode : Bool) (groups : List Tree) where
     plain_may n k (concat ts) p = row_may n k ts p
     plain_may n k (alt ts) p = branches_may n k ts p.1
     plain_may n k (group t) p = plain_may (n + 1) k t p
-    plain_may n k (look_around t how) p = look_may unicode groups n k how (re_of unicode groups n k t) t p
+    plain_may n k (look_around t how) p = look_may unicode groups called n k how (re_of unicode groups called n k t) t p
     plain_may n k (repeat t lo hi greedy) p = out_may (has_no_iteration lo hi) _ (plain_may n k t p)
     plain_may n k _ p = absurd p
 
-    row_may : (n k : ℕ) (ts : Trees) → ArePlain ts → MayAskIn false (row_of unicode groups n k ts)
+    row_may : (n k : ℕ) (ts : Trees) → ArePlain ts → MayAskIn false (row_of unicode groups called n k ts)
     row_may n k no_trees p = tt
     row_may n k (more_trees t ts) p = (plain_may n k t p.0, row_may _ _ ts p.1)
 
-    branches_may : (n k : ℕ) (ts : Trees) → ArePlain ts → MayAskIn false (branches_of unicode groups n k ts)
+    branches_may : (n k : ℕ) (ts : Trees) → ArePlain ts → MayAskIn false (branches_of unicode groups called n k ts)
     branches_may n k no_trees p = tt
     branches_may n k (more_trees t no_trees) p = plain_may n k t p.0
     branches_may n k (more_trees t (more_trees u us)) p = (plain_may n k t p.0, branches_may _ _ (more_trees u us) p.1)
 
-  -- a repeat of what is lighter is lighter
-  lighter : (u b : Bool) (lo hi v w : ℕ) → v ≤ w
-      → repeat_weight u (not b) lo hi v ≤ sizes.repeat_weight groups lo (cond u None (Some hi)) w b
-  unfolding repeat_weight
-  lighter true true lo hi v w h = omega (arith, mul-le-mul_left (lo + 2) h)
-  lighter true false lo hi v w h = omega (arith, mul-le-mul_left (max lo 1) h)
-  lighter false b lo hi v w h =
-      let more : v + 3 ≤ w + 3 = omega arith in
-      omega (arith, mul-le-mul_left lo h, mul-le-mul_left (hi - lo) more)
+  module _ (all : List Tree) where
+    -- a repeat of what is lighter is lighter
+    lighter : (u b strict : Bool) (lo hi v w : ℕ) → not b ≡ strict → v ≤ w
+        → repeat_weight u strict lo hi v ≤ sizes.repeat_weight all lo (cond u None (Some hi)) w b
+    unfolding repeat_weight
+    lighter true true strict lo hi v w e h = rw (sym e) (omega (arith, mul-le-mul_left (lo + 2) h))
+    lighter true false strict lo hi v w e h = rw (sym e) (omega (arith, mul-le-mul_left (max lo 1) h))
+    lighter false b strict lo hi v w e h =
+        let more : v + 3 ≤ w + 3 = omega arith in
+        omega (arith, mul-le-mul_left lo h, mul-le-mul_left (hi - lo) more)
 
-  mutual
-    unfolding re_of weight sizes.weight
+    mutual
+      unfolding re_of weight sizes.weight
 
-    pub light : (n k : ℕ) (t : Tree) → IsPlain t → weight (re_of unicode groups n k t) ≤ sizes.weight groups t
-    light n k empty p = omega arith
-    light n k (any newline crlf) p = omega arith
-    light n k (literal val casei) p = omega arith
-    light n k (delegate class casei) p = omega arith
-    light n k (assertion a) p = weight_served a (test_of a) p
-    light n k (concat ts) p = omega (arith, row_light n k ts p)
-    light n k (alt ts) p = branches_light n k ts p.0 p.1
-    light n k (group t) p = omega (arith, light (n + 1) k t p)
-    light n k (look_around t how) p = omega (arith, look_light unicode groups n k how (re_of unicode groups n k t) t p)
-    light n k (repeat t lo hi greedy) p =
-        out_light (has_no_iteration lo hi) _ _ (lighter (is_unbounded hi) (may_be_empty groups t) lo hi _ _ (light n k t p))
-    light n k _ p = absurd p
+      pub light : (n k : ℕ) (t : Tree) → IsPlain t → weight (re_of unicode groups called n k t) ≤ sizes.weight all t
+      light n k empty p = omega arith
+      light n k (any newline crlf) p = omega arith
+      light n k (literal val casei) p = omega arith
+      light n k (delegate class casei) p = omega arith
+      light n k (assertion a) p = weight_served a (test_of a) p
+      light n k (concat ts) p = omega (arith, row_light n k ts p)
+      light n k (alt ts) p = branches_light n k ts p.0 p.1
+      light n k (group t) p = omega (arith, light (n + 1) k t p)
+      light n k (look_around t how) p = omega (arith, look_light unicode groups called n k how (re_of unicode groups called n k t) t p)
+      light n k (repeat t lo hi greedy) p =
+          out_light (has_no_iteration lo hi) _ _ (lighter (is_unbounded hi) (may_be_empty all t) (never_empty (re_of unicode groups called n k t)) lo hi _ _
+          (flag_is all n k t (plain_regular NoCall t p)) (light n k t p))
+      light n k _ p = absurd p
 
-    row_light : (n k : ℕ) (ts : Trees) → ArePlain ts → weight (row_of unicode groups n k ts) ≤ weights groups ts
-    row_light n k no_trees p = omega arith
-    row_light n k (more_trees t ts) p = omega (arith, light n k t p.0, row_light (n + group_count t) (k + length (classes t)) ts p.1)
+      row_light : (n k : ℕ) (ts : Trees) → ArePlain ts → weight (row_of unicode groups called n k ts) ≤ weights all ts
+      row_light n k no_trees p = omega arith
+      row_light n k (more_trees t ts) p = omega (arith, light n k t p.0, row_light (n + group_count t) (k + length (classes t)) ts p.1)
 
-    branches_light : (n k : ℕ) (ts : Trees) → (ts ≢ no_trees) → ArePlain ts → weight (branches_of unicode groups n k ts) ≤ weights groups ts + 3 * branch_gaps groups ts
-    branches_light n k no_trees some p = absurd (some refl)
-    branches_light n k (more_trees t no_trees) some p = omega (arith, light n k t p.0)
-    branches_light n k (more_trees t (more_trees u us)) some p =
-        omega (arith, light n k t p.0, branches_light (n + group_count t) (k + length (classes t)) (more_trees u us) (λ e. cc) p.1)
+      branches_light : (n k : ℕ) (ts : Trees) → (ts ≢ no_trees) → ArePlain ts → weight (branches_of unicode groups called n k ts) ≤ weights all ts + 3 * branch_gaps all ts
+      branches_light n k no_trees some p = absurd (some refl)
+      branches_light n k (more_trees t no_trees) some p = omega (arith, light n k t p.0)
+      branches_light n k (more_trees t (more_trees u us)) some p =
+          omega (arith, light n k t p.0, branches_light (n + group_count t) (k + length (classes t)) (more_trees u us) (λ e. cc) p.1)

@@ -1,5 +1,5 @@
 -- What an attempt at the pattern of a regular tree finds is the match of the tree there.
-use Rattle.std.proofs.Common.{◌≡◌, ℕ, zero, suc, ◌+◌, ◌*◌, ◌≤◌, ◌==◌, Bool, true, false, cond, not, ◌&&◌, List, [], ◌∷◌, length, map, replicate, Option, Some, None, nat_le, set, slice_get, refl, sym, ap, ap₂, ◌∙◌, inl, inr, arith, lt-ltb, le-ltb}
+use Rattle.std.proofs.Common.{◌≡◌, ℕ, zero, suc, ◌*◌, ◌≤◌, ◌==◌, Bool, true, false, cond, not, ◌&&◌, List, [], ◌∷◌, length, map, replicate, Option, Some, None, nat_le, set, refl, sym, ap, ap₂, ◌∙◌, inl, inr, arith, lt-ltb, le-ltb}
 use Rattle.std.specs.Prelude.{option_map}
 use Rattle.std.specs.List.{filter}
 use Rattle.std.proofs.lemmas.Bool.{cases_lt}
@@ -24,7 +24,12 @@ use Rattle.fancy_regex_linear.proofs.TreeLemmas.{may_all}
 use Rattle.fancy_regex_linear.proofs.WaysLemmas.{best_from, onward, attempt_lists}
 use Rattle.fancy_regex_linear.proofs.MeaningLemmas.{spot_of}
 use Rattle.fancy_regex_linear.proofs.SameStartLemmas.{regular_keeps_start}
-use Rattle.fancy_regex_linear.proofs.RegularLemmas.{first_at, asking_view, tree_firsts}
+use Rattle.fancy_regex_linear.proofs.RegularLemmas.{HasFirsts, first_at, asking_view, tree_firsts}
+use Rattle.fancy_regex_linear.specs.Calls.{IsOfTree, greatest_nesting, AreAt, IsCalled}
+use Rattle.fancy_regex_linear.proofs.OccurrenceLemmas.{pattern_stands, pattern_bodies_stand}
+use Rattle.fancy_regex_linear.proofs.ApartLemmas.{apart, called_callable}
+use Rattle.fancy_regex_linear.proofs.CallLemmas.{served, call_keeps_start}
+use Rattle.fancy_regex_tree.specs.Tree.{Text}
 
 -- the first of the ways that a search admits
 kept_first : (b : Bool) (w : MatchState) (vs : List MatchState) (o : Option Spot) → option_map spot_of (first_item vs) ≡ o
@@ -76,7 +81,16 @@ module _ {A B C : Type 0} (v : B → C) (f : A → Option B) (g : A → Option C
   first_some_same [] h = refl
   first_some_same (x ∷ xs) h = some_here (f x) (first_some f xs) (g x) (first_some g xs) h.0 (first_some_same xs h.1)
 
-module _ (unicode : Bool) (text : List ℕ) (input : RunInput) (pattern : Pattern) (is_regular : IsRegular pattern.tree) where
+module _ (unicode : Bool) (text : List ℕ) (input : RunInput) (pattern : Pattern) (of_tree : IsOfTree pattern) (cs : List (Text × Bool)) (base : ℕ) (called : ℕ → Re)
+    (is_regular : IsRegular (λ j. IsCalled pattern.groups unicode cs (greatest_nesting (length pattern.groups)) j (called j)) pattern.tree)
+    (stand : AreAt cs base (classes pattern.tree)) where
+  -- how deep calls may nest, and what a call has to be
+  abbrev nesting : ℕ
+  nesting = greatest_nesting (length pattern.groups)
+
+  abbrev known : ℕ → Type 0
+  known j = IsCalled pattern.groups unicode cs nesting j (called j)
+
   abbrev s : Setting
   s = setting_for unicode text input
 
@@ -84,10 +98,10 @@ module _ (unicode : Bool) (text : List ℕ) (input : RunInput) (pattern : Patter
   find = search_for false input
 
   abbrev re : Re
-  re = re_of unicode pattern.groups pattern.first_group 0 pattern.tree
+  re = re_of unicode pattern.groups called pattern.first_group base pattern.tree
 
   abbrev view : View
-  view = asking_view s (classes pattern.tree)
+  view = asking_view s cs
 
   abbrev unset : List ℕ
   unset = replicate (2 * length pattern.groups) 18446744073709551615
@@ -96,12 +110,20 @@ module _ (unicode : Bool) (text : List ℕ) (input : RunInput) (pattern : Patter
   abbrev pub tried : ℕ → Option Trace
   tried p = (attempt view (length text) re (accept_by input.range.end) p).answer
 
+  -- what is called serves a call with none open
+  pub call_serves : (j : ℕ) → known j → HasFirsts (length text) (call_ways s pattern.groups (max_open_calls pattern.groups) [] j) (plain.ways view (length text) (called j))
+  call_serves j is =
+      served s pattern.groups unicode cs (λ c. refl) (pattern_bodies_stand pattern of_tree) nesting j (called j) is (max_open_calls pattern.groups) []
+      (omega arith) (omega arith)
+
   first_way_found : (p : ℕ) → p ≤ length text → option_map spot_of (chosen false (filter (is_admitted find) (ways_at s pattern find p))) ≡ trace_end unset (tried p)
   unfolding ways
   first_way_found p h =
       admitted_first input (ways_at s pattern find p)
-      ∙ tree_firsts s pattern.groups unicode (call_ways s pattern.groups (max_open_calls pattern.groups) []) (classes pattern.tree) (λ c. refl) pattern.first_group 0 pattern.tree is_regular
-      (λ j lt. let e : 0 + j ≡ j = omega arith in ap (slice_get (classes pattern.tree)) e) (start_way pattern p) h (λ p. nat_le p input.range.end)
+      ∙ tree_firsts s pattern.groups unicode (call_ways s pattern.groups (max_open_calls pattern.groups) []) cs (λ c. refl) called known call_serves
+      pattern.first_group base pattern.tree is_regular
+      (apart pattern.groups unicode cs (pattern_bodies_stand pattern of_tree) nesting called pattern.first_group pattern.tree (pattern_stands pattern of_tree) is_regular)
+      stand (start_way pattern p) h (λ p. nat_le p input.range.end)
       ∙ sym (accepted_first input.range.end (plain.ways view (length text) re (spot_of (start_way pattern p))))
       ∙ sym (attempt_lists view (length text) (λ e. refl) re (may_all re) (accept_by input.range.end) (spot_of (start_way pattern p)))
       ∙ ap (λ slots. trace_end slots (tried p)) (no_slots (length pattern.groups))
@@ -117,7 +139,9 @@ module _ (unicode : Bool) (text : List ℕ) (input : RunInput) (pattern : Patter
   unfolding ways
   starts_here p =
       Each-filter (λ v. v.match_start ≡ p) (is_admitted find) _
-      (regular_keeps_start s pattern.groups (call_ways s pattern.groups (max_open_calls pattern.groups) []) pattern.first_group pattern.tree is_regular (start_way pattern p))
+      (regular_keeps_start s pattern.groups (call_ways s pattern.groups (max_open_calls pattern.groups) []) known
+      (λ j is. call_keeps_start s pattern.groups nesting j (called_callable pattern.groups unicode cs nesting j (called j) is) (max_open_calls pattern.groups) [])
+      pattern.first_group pattern.tree is_regular (start_way pattern p))
 
   way_is_match : (p : ℕ) (o : Option MatchState) (b : Option Spot) → option_map spot_of o ≡ b → ((v : MatchState) → o ≡ Some v → v.match_start ≡ p)
       → option_map of_match (option_map match_of o) ≡ option_map (of_way p) b

@@ -8,7 +8,7 @@ use Rattle.std.proofs.lemmas.Bool.{and_parts, cases_lt}
 use Rattle.std.proofs.lemmas.List.{map-append}
 use Rattle.std.proofs.lemmas.List.Folds.{find-append}
 use Rattle.std.proofs.lemmas.Option.{none-some, same_Some}
-use Rattle.fancy_regex_tree.specs.Tree.{Tree, Trees, Text, empty, any, assertion, general_newline, literal, concat, alt, group, look_around, repeat, delegate, atomic_group, conditional, verb, continue, define_group, no_trees, more_trees}
+use Rattle.fancy_regex_tree.specs.Tree.{Tree, Trees, Text, empty, any, assertion, general_newline, literal, concat, alt, group, look_around, repeat, delegate, atomic_group, conditional, verb, continue, define_group, subroutine_call, no_trees, more_trees}
 use Rattle.fancy_regex_tree.specs.declared.expr.Assertion.{Assertion}
 use Rattle.fancy_regex_tree.specs.declared.expr.Assertion.TheVariants.{EndTextIgnoreTrailingNewlines}
 use Rattle.fancy_regex_tree.specs.declared.expr.LookAround.{LookAround}
@@ -25,7 +25,7 @@ use Rattle.fancy_regex_meaning.specs.Ways as ways
 use Rattle.fancy_regex_states.specs.Attempts.{View, reads}
 use Rattle.fancy_regex_states.specs.declared.atom.Leaf.TheVariants.{Any}
 use Rattle.fancy_regex_states.specs.declared.atom.Test.{Test}
-use Rattle.fancy_regex_linear.specs.Re.{Re, nothing, read, test, cat}
+use Rattle.fancy_regex_linear.specs.Re.{Re}
 use Rattle.fancy_regex_linear.specs.Re as re
 use Rattle.fancy_regex_linear.specs.Plain.{IsRegular, AreRegular, IsOneChar, IsServed, test_of, ends_by_crlf, text_end_re, served, joined, is_negated_look, is_look_behind, steps_back, looked, around, each_around, char_leaf, has_no_iteration, unless, classes, row_classes, re_of, row_of, branches_of}
 use Rattle.fancy_regex_linear.specs.SettingView.{view_of}
@@ -37,7 +37,7 @@ use Rattle.fancy_regex_linear.proofs.MeaningLemmas.{spot_of, Same, stay_same, no
 use Rattle.fancy_regex_linear.proofs.NewlineLemmas.{newline_same}
 use Rattle.fancy_regex_linear.proofs.TextEndLemmas.{text_end_same}
 use Rattle.fancy_regex_linear.proofs.CarryLemmas.{Lacks, put, map_twice, ways_carry}
-use Rattle.fancy_regex_linear.proofs.PlainLemmas.{lacks}
+use Rattle.fancy_regex_linear.proofs.ApartLemmas.{IsApart, AreApart}
 
 -- the first of these spots at a place that is wanted
 abbrev pub first_at : (ℕ → Bool) → List Spot → Option Spot
@@ -356,7 +356,10 @@ one_char_cases unicode k _ = inr refl
 abbrev pub asking_view : Setting → List (Text × Bool) → View
 asking_view s cs = record (view_of s cs false) { has_parts = true }
 
-module _ (s : Setting) (groups : List Tree) (unicode : Bool) (call : ℕ → Moves) (cs : List (Text × Bool)) (same_fold : (c : ℕ) → s.fold c ≡ folded unicode c) where
+-- Over what is called, where it is known of some calls what they become: these serve them.
+module _ (s : Setting) (groups : List Tree) (unicode : Bool) (call : ℕ → Moves) (cs : List (Text × Bool)) (same_fold : (c : ℕ) → s.fold c ≡ folded unicode c)
+    (called : ℕ → Re) (known : ℕ → Type 0)
+    (serves : (j : ℕ) → known j → HasFirsts (length s.text) (call j) (plain.ways (asking_view s cs) (length s.text) (called j))) where
   abbrev len : ℕ
   len = length s.text
 
@@ -426,7 +429,7 @@ module _ (s : Setting) (groups : List Tree) (unicode : Bool) (call : ℕ → Mov
       (w : MatchState) → (meaning s groups call n t).behind w
       ≡ for_some (λ p. (meaning s groups call n t).from (with_position w p)) (position_before s.text (size groups t).least w.position)
 
-  node_steps : (n : ℕ) (t : Tree) → IsRegular t → StepsBack n t
+  node_steps : (n : ℕ) (t : Tree) → IsRegular known t → StepsBack n t
   unfolding meaning
   node_steps n (alt ts) p = tt
   node_steps n empty p = λ w. refl
@@ -443,6 +446,7 @@ module _ (s : Setting) (groups : List Tree) (unicode : Bool) (call : ℕ → Mov
   node_steps n (define_group t) p = λ w. refl
   node_steps n (verb v) p = λ w. refl
   node_steps n continue p = λ w. refl
+  node_steps n (subroutine_call j) p = λ w. refl
   node_steps n (repeat t lo hi greedy) p = λ w. refl
   node_steps n _ p = absurd p
 
@@ -463,136 +467,137 @@ module _ (s : Setting) (groups : List Tree) (unicode : Bool) (call : ℕ → Mov
 
   -- branches that are equally long, or a look-ahead: they are one part; else each is looked for by itself
   branch_looks : (behind : Bool) (n k : ℕ) (how : LookAround) (ts : Trees) (always : Bool) → is_look_behind how ≡ behind → (size groups (alt ts)).always ≡ always
-      → HasFirsts len (any_of (meanings s groups call n ts)).from (plain.ways view len (branches_of unicode groups n k ts))
+      → HasFirsts len (any_of (meanings s groups call n ts)).from (plain.ways view len (branches_of unicode groups called n k ts))
       → ((w : MatchState) → w.position ≤ len → SameFirst (map spot_of (keep_only_pairs w ((any_of (meanings s groups call n ts)).behind w)))
-      (plain.ways view len (re.alts (each_around unicode groups n k LookBehind ts)) (spot_of w)))
+      (plain.ways view len (re.alts (each_around unicode groups called n k LookBehind ts)) (spot_of w)))
       → ((w : MatchState) → w.position ≤ len → SameFirst (map spot_of (match_empty_if (is_none_of ((any_of (meanings s groups call n ts)).behind w)) w))
-      (plain.ways view len (re.cats (each_around unicode groups n k LookBehindNeg ts)) (spot_of w)))
+      (plain.ways view len (re.cats (each_around unicode groups called n k LookBehindNeg ts)) (spot_of w)))
       → HasFirsts len (ways.look how (meaning s groups call n (alt ts))) (plain.ways view len
-      (if behind && not always then joined (is_negated_look how) (each_around unicode groups n k how ts)
-      else re.ask (is_negated_look how) (steps_back groups how (alt ts)) (branches_of unicode groups n k ts)))
+      (if behind && not always then joined (is_negated_look how) (each_around unicode groups called n k how ts)
+      else re.ask (is_negated_look how) (steps_back groups how (alt ts)) (branches_of unicode groups called n k ts)))
   unfolding meaning re_of classes plain.ways place_before
   branch_looks true n k LookBehind ts false e f same kept refused w q = rw f (kept w q)
   branch_looks true n k LookBehindNeg ts false e f same kept refused w q = rw f (refused w q)
   branch_looks true n k how ts true e f same kept refused w q =
-      asks_firsts (meaning s groups call n (alt ts)) how (alt ts) (branches_of unicode groups n k ts) same (λ v. rw f refl) w q
+      asks_firsts (meaning s groups call n (alt ts)) how (alt ts) (branches_of unicode groups called n k ts) same (λ v. rw f refl) w q
   branch_looks false n k LookAhead ts always e f same kept refused w q =
-      first_kept w ((any_of (meanings s groups call n ts)).from w) (plain.ways view len (branches_of unicode groups n k ts) (spot_of w)) (same w q anywhere)
+      first_kept w ((any_of (meanings s groups call n ts)).from w) (plain.ways view len (branches_of unicode groups called n k ts) (spot_of w)) (same w q anywhere)
   branch_looks false n k LookAheadNeg ts always e f same kept refused w q =
-      first_refused w ((any_of (meanings s groups call n ts)).from w) (plain.ways view len (branches_of unicode groups n k ts) (spot_of w)) (same w q anywhere)
+      first_refused w ((any_of (meanings s groups call n ts)).from w) (plain.ways view len (branches_of unicode groups called n k ts) (spot_of w)) (same w q anywhere)
   branch_looks _ n k how ts always e f same kept refused w q = cc
 
   mutual
     unfolding meaning re_of around each_around classes plain.ways reads
 
     -- a regular tree has the first ways of its pattern
-    pub tree_firsts : (n k : ℕ) (t : Tree) → IsRegular t → StandAt s groups unicode call cs false same_fold k (classes t)
-        → HasFirsts len (meaning s groups call n t).from (plain.ways view len (re_of unicode groups n k t))
-    tree_firsts n k empty p h w q = λ wanted. refl
-    tree_firsts n k (any newline crlf) p h w q =
+    pub tree_firsts : (n k : ℕ) (t : Tree) → IsRegular known t → IsApart unicode groups called n t → StandAt s groups unicode call cs false same_fold k (classes t)
+        → HasFirsts len (meaning s groups call n t).from (plain.ways view len (re_of unicode groups called n k t))
+    tree_firsts n k empty p z h w q = λ wanted. refl
+    tree_firsts n k (any newline crlf) p z h w q =
         λ wanted. ap (first_at wanted) (char_same s cs false (Any newline crlf) w (char_at s.text w.position) refl _ (λ c e. refl))
-    tree_firsts n k (literal val casei) p h w q =
+    tree_firsts n k (literal val casei) p z h w q =
         λ wanted. ap (first_at wanted) (literal_same s groups unicode call cs false same_fold (slice_index val 0) casei w q)
-    tree_firsts n k (delegate class casei) p h w q = λ wanted. ap (first_at wanted) (class_same s groups unicode call cs false same_fold k class casei h w q)
-    tree_firsts n k (general_newline wide) p h w q = λ wanted. ap (first_at wanted) (newline_same s cs wide w)
-    tree_firsts n k (assertion a) p h w q = assertion_firsts (test_of a) a refl w q
-    tree_firsts n k (concat ts) p h w q = row_firsts n k ts p h w q
-    tree_firsts n k (alt ts) p h w q = branches_firsts n k ts p.0 p.1 h w q
-    tree_firsts n k (group t) p h w q =
-        group_firsts view len n (meaning s groups call (n + 1) t).from (re_of unicode groups (n + 1) k t) (lacks unicode groups n (n + 1) k t (omega arith))
-        (tree_firsts (n + 1) k t p h) w q
-    tree_firsts n k (look_around t how) p h w q = around_firsts n k how t p h (tree_firsts n k t p h) w q
-    tree_firsts n k (atomic_group t) p h w q = atomic_firsts view len (meaning s groups call n t) (re_of unicode groups n k t) (tree_firsts n k t p h) w q
-    tree_firsts n k (repeat t lo hi greedy) p h w q =
+    tree_firsts n k (delegate class casei) p z h w q = λ wanted. ap (first_at wanted) (class_same s groups unicode call cs false same_fold k class casei h w q)
+    tree_firsts n k (general_newline wide) p z h w q = λ wanted. ap (first_at wanted) (newline_same s cs wide w)
+    tree_firsts n k (assertion a) p z h w q = assertion_firsts (test_of a) a refl w q
+    tree_firsts n k (concat ts) p z h w q = row_firsts n k ts p z h w q
+    tree_firsts n k (alt ts) p z h w q = branches_firsts n k ts p.0 p.1 z h w q
+    tree_firsts n k (group t) p z h w q =
+        group_firsts view len n (meaning s groups call (n + 1) t).from (re_of unicode groups called (n + 1) k t) (z.0 k)
+        (tree_firsts (n + 1) k t p z.1 h) w q
+    tree_firsts n k (look_around t how) p z h w q = around_firsts n k how t p z h (tree_firsts n k t p z h) w q
+    tree_firsts n k (atomic_group t) p z h w q = atomic_firsts view len (meaning s groups call n t) (re_of unicode groups called n k t) (tree_firsts n k t p z h) w q
+    tree_firsts n k (repeat t lo hi greedy) p z h w q =
         out_firsts s lo hi greedy (meaning s groups call n t).from view _ (has_no_iteration lo hi) (no_iterations lo hi)
-        (λ made. repeat_firsts s lo hi greedy (is_unbounded hi) (meaning s groups call n t).from (plain.ways view len (re_of unicode groups n k t))
-        (ways_end view len (re_of unicode groups n k t)) (ways_alike view len (re_of unicode groups n k t))
-        (tree_firsts n k t p (all_stand s groups unicode call cs false same_fold k lo hi t made h))) w q
-    tree_firsts n k (conditional c a b) p h w q =
+        (λ made. repeat_firsts s lo hi greedy (is_unbounded hi) (meaning s groups call n t).from (plain.ways view len (re_of unicode groups called n k t))
+        (ways_end view len (re_of unicode groups called n k t)) (ways_alike view len (re_of unicode groups called n k t))
+        (tree_firsts n k t (p made) (z made) (all_stand s groups unicode call cs false same_fold k lo hi t made h))) w q
+    tree_firsts n k (conditional c a b) p z h w q =
         let after = stand_right s groups unicode call cs false same_fold k (classes c) (classes a ++ classes b) h in
         conditional_firsts view len (meaning s groups call n c).from (meaning s groups call (n + group_count c) a).from
         (meaning s groups call (n + group_count c + group_count a) b).from
-        (re_of unicode groups n k c) (re_of unicode groups (n + group_count c) (k + length (classes c)) a)
-        (re_of unicode groups (n + group_count c + group_count a) (k + length (classes c) + length (classes a)) b)
-        (tree_firsts n k c p.0 (stand_left s groups unicode call cs false same_fold k (classes c) (classes a ++ classes b) h))
-        (tree_firsts (n + group_count c) (k + length (classes c)) a p.1.0
+        (re_of unicode groups called n k c) (re_of unicode groups called (n + group_count c) (k + length (classes c)) a)
+        (re_of unicode groups called (n + group_count c + group_count a) (k + length (classes c) + length (classes a)) b)
+        (tree_firsts n k c p.0 z.0 (stand_left s groups unicode call cs false same_fold k (classes c) (classes a ++ classes b) h))
+        (tree_firsts (n + group_count c) (k + length (classes c)) a p.1.0 z.1.0
         (stand_left s groups unicode call cs false same_fold (k + length (classes c)) (classes a) (classes b) after))
-        (tree_firsts (n + group_count c + group_count a) (k + length (classes c) + length (classes a)) b p.1.1
+        (tree_firsts (n + group_count c + group_count a) (k + length (classes c) + length (classes a)) b p.1.1 z.1.1
         (stand_right s groups unicode call cs false same_fold (k + length (classes c)) (classes a) (classes b) after)) w q
-    tree_firsts n k (define_group t) p h w q = λ wanted. refl
-    tree_firsts n k (verb v) p h w q = λ wanted. refl
-    tree_firsts n k continue p h w q = λ wanted. ap (first_at wanted) (stay_same _ w)
-    tree_firsts n k _ p h w q = absurd p
+    tree_firsts n k (subroutine_call j) p z h w q = serves j p w q
+    tree_firsts n k (define_group t) p z h w q = λ wanted. refl
+    tree_firsts n k (verb v) p z h w q = λ wanted. refl
+    tree_firsts n k continue p z h w q = λ wanted. ap (first_at wanted) (stay_same _ w)
+    tree_firsts n k _ p z h w q = absurd p
 
-    row_firsts : (n k : ℕ) (ts : Trees) → AreRegular ts → StandAt s groups unicode call cs false same_fold k (row_classes ts)
-        → HasFirsts len (all_of (meanings s groups call n ts)) (plain.ways view len (row_of unicode groups n k ts))
-    row_firsts n k no_trees p h w q = λ wanted. refl
-    row_firsts n k (more_trees t ts) p h w q =
+    row_firsts : (n k : ℕ) (ts : Trees) → AreRegular known ts → AreApart unicode groups called n ts → StandAt s groups unicode call cs false same_fold k (row_classes ts)
+        → HasFirsts len (all_of (meanings s groups call n ts)) (plain.ways view len (row_of unicode groups called n k ts))
+    row_firsts n k no_trees p z h w q = λ wanted. refl
+    row_firsts n k (more_trees t ts) p z h w q =
         seq_firsts len (meaning s groups call n t).from (all_of (meanings s groups call (n + group_count t) ts))
-        (plain.ways view len (re_of unicode groups n k t)) (plain.ways view len (row_of unicode groups (n + group_count t) (k + length (classes t)) ts))
-        (ways_end view len (re_of unicode groups n k t)) (ways_alike view len (row_of unicode groups (n + group_count t) (k + length (classes t)) ts))
-        (tree_firsts n k t p.0 (stand_left s groups unicode call cs false same_fold k (classes t) (row_classes ts) h))
-        (row_firsts (n + group_count t) (k + length (classes t)) ts p.1 (stand_right s groups unicode call cs false same_fold k (classes t) (row_classes ts) h)) w q
+        (plain.ways view len (re_of unicode groups called n k t)) (plain.ways view len (row_of unicode groups called (n + group_count t) (k + length (classes t)) ts))
+        (ways_end view len (re_of unicode groups called n k t)) (ways_alike view len (row_of unicode groups called (n + group_count t) (k + length (classes t)) ts))
+        (tree_firsts n k t p.0 z.0 (stand_left s groups unicode call cs false same_fold k (classes t) (row_classes ts) h))
+        (row_firsts (n + group_count t) (k + length (classes t)) ts p.1 z.1 (stand_right s groups unicode call cs false same_fold k (classes t) (row_classes ts) h)) w q
 
-    branches_firsts : (n k : ℕ) (ts : Trees) → (ts ≢ no_trees) → AreRegular ts → StandAt s groups unicode call cs false same_fold k (row_classes ts)
-        → HasFirsts len (any_of (meanings s groups call n ts)).from (plain.ways view len (branches_of unicode groups n k ts))
-    branches_firsts n k no_trees some p h w q = absurd (some refl)
-    branches_firsts n k (more_trees t no_trees) some p h w q =
+    branches_firsts : (n k : ℕ) (ts : Trees) → (ts ≢ no_trees) → AreRegular known ts → AreApart unicode groups called n ts → StandAt s groups unicode call cs false same_fold k (row_classes ts)
+        → HasFirsts len (any_of (meanings s groups call n ts)).from (plain.ways view len (branches_of unicode groups called n k ts))
+    branches_firsts n k no_trees some p z h w q = absurd (some refl)
+    branches_firsts n k (more_trees t no_trees) some p z h w q =
         λ wanted. ap (λ vs. first_at wanted (map spot_of vs)) (append-nil ((meaning s groups call n t).from w))
-        ∙ tree_firsts n k t p.0 (stand_left s groups unicode call cs false same_fold k (classes t) (row_classes no_trees) h) w q wanted
-    branches_firsts n k (more_trees t (more_trees u us)) some p h w q =
+        ∙ tree_firsts n k t p.0 z.0 (stand_left s groups unicode call cs false same_fold k (classes t) (row_classes no_trees) h) w q wanted
+    branches_firsts n k (more_trees t (more_trees u us)) some p z h w q =
         let rest = any_of (meanings s groups call (n + group_count t) (more_trees u us)) in
         λ wanted. ap (first_at wanted) (map-append spot_of ((meaning s groups call n t).from w) (rest.from w))
         ∙ first_append (map spot_of ((meaning s groups call n t).from w)) (map spot_of (rest.from w))
-        (plain.ways view len (re_of unicode groups n k t) (spot_of w)) (plain.ways view len (branches_of unicode groups (n + group_count t) (k + length (classes t)) (more_trees u us)) (spot_of w))
-        (tree_firsts n k t p.0 (stand_left s groups unicode call cs false same_fold k (classes t) (row_classes (more_trees u us)) h) w q)
-        (branches_firsts (n + group_count t) (k + length (classes t)) (more_trees u us) (λ e. cc) p.1 (stand_right s groups unicode call cs false same_fold k (classes t) (row_classes (more_trees u us)) h) w q)
+        (plain.ways view len (re_of unicode groups called n k t) (spot_of w)) (plain.ways view len (branches_of unicode groups called (n + group_count t) (k + length (classes t)) (more_trees u us)) (spot_of w))
+        (tree_firsts n k t p.0 z.0 (stand_left s groups unicode call cs false same_fold k (classes t) (row_classes (more_trees u us)) h) w q)
+        (branches_firsts (n + group_count t) (k + length (classes t)) (more_trees u us) (λ e. cc) p.1 z.1 (stand_right s groups unicode call cs false same_fold k (classes t) (row_classes (more_trees u us)) h) w q)
         wanted
 
     -- so has a look-around over it
-    around_firsts : (n k : ℕ) (how : LookAround) (t : Tree) → IsRegular t → StandAt s groups unicode call cs false same_fold k (classes t)
-        → HasFirsts len (meaning s groups call n t).from (plain.ways view len (re_of unicode groups n k t))
-        → HasFirsts len (ways.look how (meaning s groups call n t)) (plain.ways view len (around unicode groups n k how (re_of unicode groups n k t) t))
-    around_firsts n k how (alt ts) p h same w q =
+    around_firsts : (n k : ℕ) (how : LookAround) (t : Tree) → IsRegular known t → IsApart unicode groups called n t → StandAt s groups unicode call cs false same_fold k (classes t)
+        → HasFirsts len (meaning s groups call n t).from (plain.ways view len (re_of unicode groups called n k t))
+        → HasFirsts len (ways.look how (meaning s groups call n t)) (plain.ways view len (around unicode groups called n k how (re_of unicode groups called n k t) t))
+    around_firsts n k how (alt ts) p z h same w q =
         branch_looks (is_look_behind how) n k how ts ((size groups (alt ts)).always) refl refl same
-        (λ v r. each_kept n k ts p.0 p.1 h v r) (λ v r. each_refused n k ts p.1 h v r) w q
-    around_firsts n k how t p h same w q =
-        look_firsts n k t how h (re.ask (is_negated_look how) (steps_back groups how t) (re_of unicode groups n k t))
-        (asks_firsts (meaning s groups call n t) how t (re_of unicode groups n k t) same (node_steps n t p)) w q
+        (λ v r. each_kept n k ts p.0 p.1 z h v r) (λ v r. each_refused n k ts p.1 z h v r) w q
+    around_firsts n k how t p z h same w q =
+        look_firsts n k t how h (re.ask (is_negated_look how) (steps_back groups how t) (re_of unicode groups called n k t))
+        (asks_firsts (meaning s groups call n t) how t (re_of unicode groups called n k t) same (node_steps n t p)) w q
 
     -- one of these branches, each from its own place
-    each_kept : (n k : ℕ) (ts : Trees) → (ts ≢ no_trees) → AreRegular ts → StandAt s groups unicode call cs false same_fold k (row_classes ts) → (w : MatchState) → w.position ≤ len
+    each_kept : (n k : ℕ) (ts : Trees) → (ts ≢ no_trees) → AreRegular known ts → AreApart unicode groups called n ts → StandAt s groups unicode call cs false same_fold k (row_classes ts) → (w : MatchState) → w.position ≤ len
         → SameFirst (map spot_of (keep_only_pairs w ((any_of (meanings s groups call n ts)).behind w)))
-        (plain.ways view len (re.alts (each_around unicode groups n k LookBehind ts)) (spot_of w))
-    each_kept n k no_trees some p h w q = absurd (some refl)
-    each_kept n k (more_trees t no_trees) some p h w q =
+        (plain.ways view len (re.alts (each_around unicode groups called n k LookBehind ts)) (spot_of w))
+    each_kept n k no_trees some p z h w q = absurd (some refl)
+    each_kept n k (more_trees t no_trees) some p z h w q =
         λ wanted. ap (λ vs. first_at wanted (map spot_of (keep_only_pairs w vs))) (append-nil ((meaning s groups call n t).behind w))
-        ∙ around_firsts n k LookBehind t p.0 (stand_left s groups unicode call cs false same_fold k (classes t) (row_classes no_trees) h)
-        (tree_firsts n k t p.0 (stand_left s groups unicode call cs false same_fold k (classes t) (row_classes no_trees) h)) w q wanted
-    each_kept n k (more_trees t (more_trees u us)) some p h w q =
+        ∙ around_firsts n k LookBehind t p.0 z.0 (stand_left s groups unicode call cs false same_fold k (classes t) (row_classes no_trees) h)
+        (tree_firsts n k t p.0 z.0 (stand_left s groups unicode call cs false same_fold k (classes t) (row_classes no_trees) h)) w q wanted
+    each_kept n k (more_trees t (more_trees u us)) some p z h w q =
         let here = (meaning s groups call n t).behind w in
         let rest = (any_of (meanings s groups call (n + group_count t) (more_trees u us))).behind w in
         λ wanted. ap (λ vs. first_at wanted (map spot_of vs)) (map-append (λ (v : MatchState). record w { pairs = v.pairs }) here rest)
         ∙ ap (first_at wanted) (map-append spot_of (keep_only_pairs w here) (keep_only_pairs w rest))
         ∙ first_append (map spot_of (keep_only_pairs w here)) (map spot_of (keep_only_pairs w rest))
-        (plain.ways view len (around unicode groups n k LookBehind (re_of unicode groups n k t) t) (spot_of w))
-        (plain.ways view len (re.alts (each_around unicode groups (n + group_count t) (k + length (classes t)) LookBehind (more_trees u us))) (spot_of w))
-        (around_firsts n k LookBehind t p.0 (stand_left s groups unicode call cs false same_fold k (classes t) (row_classes (more_trees u us)) h)
-        (tree_firsts n k t p.0 (stand_left s groups unicode call cs false same_fold k (classes t) (row_classes (more_trees u us)) h)) w q)
-        (each_kept (n + group_count t) (k + length (classes t)) (more_trees u us) (λ e. cc) p.1
+        (plain.ways view len (around unicode groups called n k LookBehind (re_of unicode groups called n k t) t) (spot_of w))
+        (plain.ways view len (re.alts (each_around unicode groups called (n + group_count t) (k + length (classes t)) LookBehind (more_trees u us))) (spot_of w))
+        (around_firsts n k LookBehind t p.0 z.0 (stand_left s groups unicode call cs false same_fold k (classes t) (row_classes (more_trees u us)) h)
+        (tree_firsts n k t p.0 z.0 (stand_left s groups unicode call cs false same_fold k (classes t) (row_classes (more_trees u us)) h)) w q)
+        (each_kept (n + group_count t) (k + length (classes t)) (more_trees u us) (λ e. cc) p.1 z.1
         (stand_right s groups unicode call cs false same_fold k (classes t) (row_classes (more_trees u us)) h) w q)
         wanted
 
     -- none of these branches, each from its own place
-    each_refused : (n k : ℕ) (ts : Trees) → AreRegular ts → StandAt s groups unicode call cs false same_fold k (row_classes ts) → (w : MatchState) → w.position ≤ len
+    each_refused : (n k : ℕ) (ts : Trees) → AreRegular known ts → AreApart unicode groups called n ts → StandAt s groups unicode call cs false same_fold k (row_classes ts) → (w : MatchState) → w.position ≤ len
         → SameFirst (map spot_of (match_empty_if (is_none_of ((any_of (meanings s groups call n ts)).behind w)) w))
-        (plain.ways view len (re.cats (each_around unicode groups n k LookBehindNeg ts)) (spot_of w))
-    each_refused n k no_trees p h w q = λ wanted. refl
-    each_refused n k (more_trees t ts) p h w q =
+        (plain.ways view len (re.cats (each_around unicode groups called n k LookBehindNeg ts)) (spot_of w))
+    each_refused n k no_trees p z h w q = λ wanted. refl
+    each_refused n k (more_trees t ts) p z h w q =
         none_of_both ((meaning s groups call n t).behind w) ((any_of (meanings s groups call (n + group_count t) ts)).behind w) w
-        (plain.ways view len (around unicode groups n k LookBehindNeg (re_of unicode groups n k t) t) (spot_of w))
-        (plain.ways view len (re.cats (each_around unicode groups (n + group_count t) (k + length (classes t)) LookBehindNeg ts)))
-        (ways_alike view len (re.cats (each_around unicode groups (n + group_count t) (k + length (classes t)) LookBehindNeg ts)))
-        (around_firsts n k LookBehindNeg t p.0 (stand_left s groups unicode call cs false same_fold k (classes t) (row_classes ts) h)
-        (tree_firsts n k t p.0 (stand_left s groups unicode call cs false same_fold k (classes t) (row_classes ts) h)) w q)
-        (each_refused (n + group_count t) (k + length (classes t)) ts p.1 (stand_right s groups unicode call cs false same_fold k (classes t) (row_classes ts) h) w q)
+        (plain.ways view len (around unicode groups called n k LookBehindNeg (re_of unicode groups called n k t) t) (spot_of w))
+        (plain.ways view len (re.cats (each_around unicode groups called (n + group_count t) (k + length (classes t)) LookBehindNeg ts)))
+        (ways_alike view len (re.cats (each_around unicode groups called (n + group_count t) (k + length (classes t)) LookBehindNeg ts)))
+        (around_firsts n k LookBehindNeg t p.0 z.0 (stand_left s groups unicode call cs false same_fold k (classes t) (row_classes ts) h)
+        (tree_firsts n k t p.0 z.0 (stand_left s groups unicode call cs false same_fold k (classes t) (row_classes ts) h)) w q)
+        (each_refused (n + group_count t) (k + length (classes t)) ts p.1 z.1 (stand_right s groups unicode call cs false same_fold k (classes t) (row_classes ts) h) w q)

@@ -67,13 +67,3 @@ module _ (states : List State) (entry : ℕ) (re : Re) (sound : IsSound re) (pro
         means = d.means;
       } in
       subst (λ (m : List State × ℕ). DoesBy view len stop m.0 m.1 re) program made
-
--- the states of a tree, as those of its pattern
-pub are_states : (unicode explicit : Bool) (tree : Tree) (states : List State) (entry : ℕ) (matchers : List CharClassMatcher) → IsRegular tree
-    → emitted (re_of unicode (pattern_in explicit tree).groups (pattern_in explicit tree).first_group 0 tree) (End ∷ []) 0 ≡ (states, entry)
-    → IsSound (re_of unicode (pattern_in explicit tree).groups (pattern_in explicit tree).first_group 0 tree)
-    → HaveMatchers unicode matchers (classes tree) → AreRegularStates unicode states entry matchers (pattern_in explicit tree)
-are_states unicode true tree states entry matchers regular program sound s =
-    record { regular = regular; program = program; sound = sound; matchers_are = s }
-are_states unicode false tree states entry matchers regular program sound s =
-    record { regular = regular; program = program; sound = sound; matchers_are = s }

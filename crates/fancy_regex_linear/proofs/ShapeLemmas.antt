@@ -6,6 +6,8 @@ use Rattle.fancy_regex_tree.specs.declared.expr.Expr.TheVariants as expr
 use Rattle.fancy_regex_tree.specs.declared.expr.Absent.TheOpen.{Expr-F}
 use Rattle.fancy_regex_tree.specs.declared.expr.Absent.TheFolds.{fold-roll-Expr}
 use Rattle.fancy_regex_tree.specs.Tree.{conditional as if_tree}
+use Rattle.fancy_regex_tree.specs.Tree as tree
+use Rattle.fancy_regex_tree.specs.declared.expr.LookAround.{LookAround}
 use Rattle.fancy_regex_linear.specs.Re.{Re, read, test, repeat, ask, conditional, cats, alts, node_shape, shape, shapes}
 use Rattle.fancy_regex_linear.specs.Translation.{all_trees}
 use Rattle.fancy_regex_linear.specs.declared.node.Node.{Node, Node-F, fold-roll-Node}
@@ -58,3 +60,22 @@ pub tree_conditional : (condition first second : Box Expr Global)
 tree_conditional condition first second =
     ap tree_of (sym (expr.rolls-Conditional condition first second))
     ∙ fold-roll-Expr Tree (ℕ → Tree) Tree absent_tree ast_tree node_tree (Expr-F.Conditional condition first second)
+
+pub tree_group : (child : Box Expr Global) → tree_of (expr.Group child) ≡ tree.group (tree_of child.value)
+tree_group child =
+    ap tree_of (sym (expr.rolls-Group child)) ∙ fold-roll-Expr Tree (ℕ → Tree) Tree absent_tree ast_tree node_tree (Expr-F.Group child)
+
+pub tree_look : (child : Box Expr Global) (how : LookAround) → tree_of (expr.LookAround child how) ≡ tree.look_around (tree_of child.value) how
+tree_look child how =
+    ap tree_of (sym (expr.rolls-LookAround child how)) ∙ fold-roll-Expr Tree (ℕ → Tree) Tree absent_tree ast_tree node_tree (Expr-F.LookAround child how)
+
+pub tree_repeat : (child : Box Expr Global) (lo hi : ℕ) (greedy : Bool) → tree_of (expr.Repeat child lo hi greedy) ≡ tree.repeat (tree_of child.value) lo hi greedy
+tree_repeat child lo hi greedy =
+    ap tree_of (sym (expr.rolls-Repeat child lo hi greedy)) ∙ fold-roll-Expr Tree (ℕ → Tree) Tree absent_tree ast_tree node_tree (Expr-F.Repeat child lo hi greedy)
+
+pub tree_atomic : (child : Box Expr Global) → tree_of (expr.AtomicGroup child) ≡ tree.atomic_group (tree_of child.value)
+tree_atomic child =
+    ap tree_of (sym (expr.rolls-AtomicGroup child)) ∙ fold-roll-Expr Tree (ℕ → Tree) Tree absent_tree ast_tree node_tree (Expr-F.AtomicGroup child)
+
+pub tree_call : (j : ℕ) → tree_of (expr.SubroutineCall j) ≡ tree.subroutine_call j
+tree_call j = ap tree_of (sym (expr.rolls-SubroutineCall j)) ∙ fold-roll-Expr Tree (ℕ → Tree) Tree absent_tree ast_tree node_tree (Expr-F.Expr::SubroutineCall j)

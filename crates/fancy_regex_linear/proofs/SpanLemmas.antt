@@ -1,5 +1,5 @@
 -- What a search for the first match says of the match of a pattern.
-use Rattle.std.proofs.Common.{◌≡◌, ℕ, ◌+◌, ◌-◌, ◌*◌, ◌^◌, ◌≤◌, ◌∙◌, Bool, false, List, min, length, replicate, Option, None, Some, IfSome, sym, ap, ap₂, arith, IsUtf8}
+use Rattle.std.proofs.Common.{[], ◌≡◌, ℕ, ◌+◌, ◌-◌, ◌*◌, ◌^◌, ◌≤◌, ◌∙◌, Bool, false, List, min, length, replicate, Option, None, Some, IfSome, sym, ap, ap₂, arith, IsUtf8}
 use Rattle.std.specs.Prelude.{option_map}
 use Rattle.fancy_regex_meaning.specs.Groups.{Pattern}
 use Rattle.fancy_regex_meaning.specs.Sizes.{tree_weight}
@@ -9,7 +9,7 @@ use Rattle.fancy_regex_class.specs.declared.input.RunInput.{RunInput}
 use Rattle.fancy_regex_states.specs.Attempts.{View, Continuation}
 use Rattle.fancy_regex_linear.specs.Meaning.{Spot}
 use Rattle.fancy_regex_linear.specs.Alone.{unset_slots}
-use Rattle.fancy_regex_linear.specs.Plain.{classes, re_of}
+use Rattle.fancy_regex_linear.specs.Plain.{no_calls, classes, re_of}
 use Rattle.fancy_regex_linear.specs.SettingView.{view_of}
 use Rattle.fancy_regex_linear.specs.Find.{earliest, attempted, places, found_of_span, span_of_found}
 use Rattle.fancy_regex_linear.specs.Easy.{found_slots}
@@ -78,11 +78,11 @@ module _ (easy : Easy) (text : List ℕ) (input : RunInput) (context : SearchCon
         → min (old + attempted (spot_from go context.entry (unset_slots easy.groups)) (places looked input.anchored input.first context.stop)) (2 ^ 64 - 1) ≤ new)
         → IsAnswered easy text input span_only span slots old new pattern
     answered utf8 below inside span_only span slots old new answers leasts =
-        let re = re_of easy.unicode pattern.groups pattern.first_group 0 pattern.tree in
+        let re = re_of easy.unicode [] no_calls pattern.first_group 0 pattern.tree in
         let view = view_of (setting_for easy.unicode text input) (classes pattern.tree) easy.longest in
         let d = program_does view input.range.end easy.states.items easy.entry re
-        (is.serves.program, sound easy.unicode pattern.groups pattern.first_group 0 pattern.tree is.serves.plain)
-        (plain_may easy.unicode pattern.groups pattern.first_group 0 pattern.tree is.serves.plain) in
+        (is.serves.program, sound easy.unicode [] no_calls pattern.first_group 0 pattern.tree is.serves.plain)
+        (plain_may easy.unicode [] no_calls pattern.first_group 0 pattern.tree is.serves.plain) in
         let shows = shows_all easy.unicode easy.longest text input easy.matchers.items (classes pattern.tree) is.serves.matchers_are utf8 in
         let explains : Explains context looked view d.go = record {
           longest = ap (λ r. r.longest) (sym of.rules);

@@ -6,7 +6,7 @@ use Rattle.fancy_regex_class.specs.Matchers.{IsMatcherOf}
 use Rattle.fancy_regex_class.specs.declared.class.CharClassMatcher.{CharClassMatcher}
 use Rattle.fancy_regex_linear.specs.Re.{Re}
 use Rattle.fancy_regex_linear.specs.Program.{emitted, IsSound}
-use Rattle.fancy_regex_linear.specs.Plain.{IsPlain, classes, re_of}
+use Rattle.fancy_regex_linear.specs.Plain.{IsPlain, no_calls, classes, re_of}
 use Rattle.fancy_regex_linear.specs.Find.{FoundMatch}
 use Rattle.fancy_regex_states.specs.declared.state.State.{State}
 use Rattle.fancy_regex_states.specs.declared.state.State.TheVariants.{Match as End}
@@ -31,7 +31,7 @@ HaveMatchers unicode (m ∷ ms) [] = ⊥
 -- The states and matchers are those of the pattern, which is plain.
 pub record IsCompiledPattern (unicode : Bool) (states : List State) (entry : ℕ) (matchers : List CharClassMatcher) (pattern : Pattern) : Type 0 where
   pub plain : IsPlain pattern.tree
-  pub program : emitted (re_of unicode pattern.groups pattern.first_group 0 pattern.tree) (End ∷ []) 0 ≡ (states, entry)
+  pub program : emitted (re_of unicode [] no_calls pattern.first_group 0 pattern.tree) (End ∷ []) 0 ≡ (states, entry)
   pub matchers_are : HaveMatchers unicode matchers (classes pattern.tree)
 
 -- the flags of a search

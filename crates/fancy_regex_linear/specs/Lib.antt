@@ -2,6 +2,7 @@ pub mod Re
 pub mod Meaning
 pub mod Attempt
 pub mod Program
+pub mod SoundProps
 pub mod Visited
 pub mod Search
 pub mod CharTests
@@ -9,11 +10,15 @@ pub mod Find
 pub mod Starts
 pub mod Plain
 pub mod SettingView
+pub mod Calls
+pub mod CallWeights
 pub mod PlainFact
 pub mod Easy
 pub mod EasyPatterns
 pub mod Refusals
+pub mod CalledClasses
 pub mod Translation
+pub mod CallMarks
 pub mod Layers
 pub mod Settled
 pub mod EasyTables

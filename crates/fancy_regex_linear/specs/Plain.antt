@@ -1,6 +1,6 @@
 -- Plain trees, and the patterns of two branches at most that they become.
-use Rattle.std.specs.Prelude.{◌≢◌, ℕ, ◌+◌, Bool, true, false, not, ◌&&◌, List, [], ◌∷◌, ◌++◌, map, length, Option, Some, None, slice_index, if◌then◌else◌, ◌==◌}
-use Rattle.fancy_regex_tree.specs.Tree.{Tree, Trees, Text, empty, any, assertion, general_newline, literal, concat, alt, group, look_around, repeat, delegate, atomic_group, conditional, verb, continue, define_group, no_trees, more_trees}
+use Rattle.std.specs.Prelude.{◌≡◌, ◌≢◌, ℕ, ◌+◌, Bool, true, false, not, ◌&&◌, List, [], ◌∷◌, ◌++◌, map, length, Option, Some, None, slice_index, if◌then◌else◌, ◌==◌}
+use Rattle.fancy_regex_tree.specs.Tree.{Tree, Trees, Text, empty, any, assertion, general_newline, literal, concat, alt, group, look_around, repeat, delegate, atomic_group, conditional, verb, continue, define_group, subroutine_call, no_trees, more_trees}
 use Rattle.fancy_regex_tree.specs.declared.expr.Assertion.{Assertion}
 use Rattle.fancy_regex_tree.specs.declared.expr.Assertion.TheVariants as A
 use Rattle.fancy_regex_tree.specs.declared.expr.BacktrackingControlVerb.{BacktrackingControlVerb}
@@ -8,10 +8,11 @@ use Rattle.fancy_regex_tree.specs.declared.expr.BacktrackingControlVerb.TheVaria
 use Rattle.fancy_regex_tree.specs.declared.expr.LookAround.{LookAround}
 use Rattle.fancy_regex_tree.specs.declared.expr.LookAround.TheVariants as L
 use Rattle.fancy_regex_meaning.specs.Groups.{group_count}
-use Rattle.fancy_regex_meaning.specs.Sizes.{size, may_be_empty}
+use Rattle.fancy_regex_meaning.specs.Sizes.{size}
 use Rattle.fancy_regex_class.specs.Classes.{folded}
 use Rattle.fancy_regex_linear.specs.Re as re
 use Rattle.fancy_regex_linear.specs.Re.{Re}
+use Rattle.fancy_regex_linear.specs.Program.{never_empty}
 use Rattle.fancy_regex_states.specs.declared.atom.Leaf.{Leaf}
 use Rattle.fancy_regex_states.specs.declared.atom.Leaf.TheVariants.{Any, Char, Folded, Class}
 use Rattle.fancy_regex_states.specs.declared.atom.Test.{Test}
@@ -72,35 +73,37 @@ abbrev pub IsFail : BacktrackingControlVerb → Type 0
 IsFail Fail = Unit {0}
 IsFail _ = ⊥
 
--- Trees that become a pattern with parts: plain ones, `\R`, `\Z`, `\G`, those that never match, definitions of groups, which match the
--- empty string, and look-arounds, atomic groups and conditionals over any such trees.
-abbrev mutual
-  pub IsRegular : Tree → Type 0
-  IsRegular empty = Unit {0}
-  IsRegular (any newline crlf) = Unit {0}
-  IsRegular (literal val casei) = Unit {0}
-  IsRegular (delegate class casei) = Unit {0}
-  IsRegular (general_newline wide) = Unit {0}
-  IsRegular (assertion a) = Unit {0}
-  IsRegular (concat ts) = AreRegular ts
-  IsRegular (alt ts) = (ts ≢ no_trees) × AreRegular ts
-  IsRegular (group t) = IsRegular t
-  IsRegular (look_around t how) = IsRegular t
-  IsRegular (atomic_group t) = IsRegular t
-  IsRegular (conditional c a b) = IsRegular c × (IsRegular a × IsRegular b)
-  IsRegular (define_group t) = Unit {0}
-  IsRegular (verb v) = IsFail v
-  IsRegular continue = Unit {0}
-  IsRegular (repeat t lo hi greedy) = IsRegular t
-  IsRegular _ = ⊥
-
-  pub AreRegular : Trees → Type 0
-  AreRegular no_trees = Unit {0}
-  AreRegular (more_trees t ts) = IsRegular t × AreRegular ts
-
 -- a repeat that has no iteration at all: nothing is made of its body
 abbrev pub has_no_iteration : ℕ → ℕ → Bool
 has_no_iteration lo hi = (lo == 0) && (hi == 0)
+
+-- Trees that become a pattern with parts, where it is known of which groups the calls do: plain ones, `\R`, `\Z`, `\G`, those that never
+-- match, definitions of groups, which match the empty string, and look-arounds, atomic groups and conditionals over any such trees. What is
+-- repeated no times may be anything.
+abbrev mutual
+  pub IsRegular : (ℕ → Type 0) → Tree → Type 0
+  IsRegular called empty = Unit {0}
+  IsRegular called (any newline crlf) = Unit {0}
+  IsRegular called (literal val casei) = Unit {0}
+  IsRegular called (delegate class casei) = Unit {0}
+  IsRegular called (general_newline wide) = Unit {0}
+  IsRegular called (assertion a) = Unit {0}
+  IsRegular called (concat ts) = AreRegular called ts
+  IsRegular called (alt ts) = (ts ≢ no_trees) × AreRegular called ts
+  IsRegular called (group t) = IsRegular called t
+  IsRegular called (look_around t how) = IsRegular called t
+  IsRegular called (atomic_group t) = IsRegular called t
+  IsRegular called (conditional c a b) = IsRegular called c × (IsRegular called a × IsRegular called b)
+  IsRegular called (define_group t) = Unit {0}
+  IsRegular called (verb v) = IsFail v
+  IsRegular called continue = Unit {0}
+  IsRegular called (subroutine_call j) = called j
+  IsRegular called (repeat t lo hi greedy) = has_no_iteration lo hi ≡ false → IsRegular called t
+  IsRegular called _ = ⊥
+
+  pub AreRegular : (ℕ → Type 0) → Trees → Type 0
+  AreRegular called no_trees = Unit {0}
+  AreRegular called (more_trees t ts) = IsRegular called t × AreRegular called ts
 
 abbrev pub unless : Bool → Re → Re
 unless true x = re.nothing
@@ -199,7 +202,12 @@ looked how (Some leaf) asking = re.test (look_test how leaf)
 abbrev pub steps_back : List Tree → LookAround → Tree → ℕ
 steps_back groups how t = if is_look_behind how then (size groups t).least else 0
 
-module _ (unicode : Bool) (groups : List Tree) where
+-- where there are no calls
+abbrev pub no_calls : ℕ → Re
+no_calls j = re.nothing
+
+-- over the bodies of all groups, where it is known what calls become
+module _ (unicode : Bool) (groups : List Tree) (called : ℕ → Re) where
   -- the pattern of a tree, with the numbers of the group that opens first in it and of its first class
   unfoldable mutual
     pub re_of : ℕ → ℕ → Tree → Re
@@ -220,7 +228,8 @@ module _ (unicode : Bool) (groups : List Tree) where
     re_of n k (verb v) = re.test Never
     re_of n k continue = re.test Continue
     re_of n k (repeat t lo hi greedy) =
-        unless (has_no_iteration lo hi) (re.repeat lo hi greedy (not (may_be_empty groups t)) (re_of n k t))
+        unless (has_no_iteration lo hi) (re.repeat lo hi greedy (never_empty (re_of n k t)) (re_of n k t))
+    re_of n k (subroutine_call j) = called j
     re_of n k _ = re.nothing
 
     pub row_of : ℕ → ℕ → Trees → Re

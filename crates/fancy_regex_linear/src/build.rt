@@ -1,23 +1,29 @@
 //! Translation of an easy syntax tree to nodes and class matchers.
 
-ghost use Rattle.std.specs.Prelude.{◌≡◌, ◌+◌, ◌&&◌, ◌||◌, true, false, ◌++◌, ◌∷◌, [], ℕ, Bool, List, None, length, not, All, OnOk, IfOk, IfErr, IfSome, chars, string_bytes, slice_index, if◌then◌else◌};
-ghost use Rattle.fancy_regex_tree.specs.Tree.{Tree, tree_of, look_around};
+ghost use Rattle.std.specs.Prelude.{◌≡◌, ◌+◌, ◌&&◌, ◌||◌, true, false, ◌++◌, ◌∷◌, [], ℕ, Bool, List, None, length, map, not, All, OnOk, IfOk, IfErr, IfSome, chars, string_bytes, slice_index, if◌then◌else◌};
+ghost use Rattle.fancy_regex_tree.specs.Tree.{Tree, tree_of, look_around, repeat};
 ghost use Rattle.fancy_regex_meaning.specs.Groups.{group_count, row_group_count};
 ghost use Rattle.fancy_regex_class.specs.Classes.{folded};
 ghost use Rattle.fancy_regex_linear.specs.Re.{shape, shapes, cats};
 ghost use Rattle.fancy_regex_linear.specs.Re as re;
 ghost use Rattle.fancy_regex_states.specs.declared.atom.Leaf.TheVariants as leaf;
-ghost use Rattle.fancy_regex_meaning.specs.Sizes.{may_be_empty};
 ghost use Rattle.fancy_regex_linear.specs.Program.{IsSound, never_empty};
 ghost use Rattle.fancy_regex_linear.specs.Plain.{test_of as test_of_assertion, ends_by_crlf as has_crlf_end, last_newline as newline_before_end, newline_re, read_each, served, text_end_re, IsPlain, ArePlain, IsRegular, AreRegular, IsOneChar, has_no_iteration, unless, look_test, joined, is_negated_look, is_look_behind, around, each_around, char_leaf, char_classes, classes, row_classes, re_of, row_of, branches_of};
-ghost use Rattle.fancy_regex_linear.specs.Translation.{all_trees, AddsMatchers};
+ghost use Rattle.fancy_regex_linear.specs.Translation.{all_trees, AddsMatchers, IsWritable, AreWritable, callee_shape, called_in, is_made};
+ghost use Rattle.fancy_regex_info.specs.AnalysisRelations.{AreCallSizes, mark_at};
+ghost use Rattle.fancy_regex_linear.specs.CallMarks.{IsCalleeOf, MakesLevel, WritesCalls};
+ghost use Rattle.fancy_regex_linear.specs.CalledClasses.{IsReached, IsBodyCause};
+ghost use Rattle.fancy_regex_info.specs.Views.{body_tree};
 ghost use Rattle.fancy_regex_linear.specs.Refusals.{IsRead, IsClassCause};
 ghost use Rattle.fancy_regex_info.specs.declared.error.CompileError.TheVariants as errors;
 ghost use Rattle.fancy_regex_class.specs.Matchers.{IsMatcherOf};
 
+use crate::callee::Callee;
+use crate::calls::{called_by_depth, greatest_nesting, is_set};
+use crate::copy::copied;
 use crate::node::{Node, Quantifier};
 use fancy_regex_class::{CharClassMatcher, ClassError, fold};
-use fancy_regex_info::{CompileError, groups_of, size_in};
+use fancy_regex_info::{CompileError, Size, group_call_sizes, groups_of, size_in};
 use fancy_regex_states::{Leaf, Test};
 use fancy_regex_tree::{Assertion, BacktrackingControlVerb, Expr, LookAround};
 use std::alloc::{AllocError, Global};
@@ -33,6 +39,10 @@ pub struct Translator {
     pub next_group: usize,
     /// The matchers of the classes, in order.
     pub matchers: Vec<CharClassMatcher>,
+    /// The sizes of calls, by the numbers of their groups.
+    pub sizes: Vec<Size>,
+    /// What a call of each group becomes, by the group's number, where it is known.
+    pub called: Vec<Option<Callee>>,
 }
 
 /// A translated expression.
@@ -50,6 +60,18 @@ impl Translated {
         ensures { (result.node ≡ node) × (result.moves ≡ false) }
     {
         Translated { node, moves: false }
+    }
+
+    /// What matches the empty string alone.
+    fn empty() -> Translated
+        ensures shape { shape result.node ≡ re.nothing }
+        ensures moves { result.moves ≡ never_empty (shape result.node) }
+        ensures sound { IsSound (shape result.node) }
+    {
+        Translated {
+            node: Node::Empty,
+            moves: false,
+        }
     }
 
     /// An expression that always consumes a character.
@@ -310,12 +332,113 @@ impl Translator {
         ensures unicode { result.unicode ≡ unicode }
         ensures first { result.next_group ≡ (if explicit_capture_group_0 then 0 else 1) }
         ensures matchers { result.matchers.items ≡ [] }
+        ensures tables { (result.sizes.items ≡ []) × (result.called.items ≡ []) }
     {
         Translator {
             alloc,
             unicode,
             next_group: if explicit_capture_group_0 { 0 } else { 1 },
             matchers: Vec::new(alloc),
+            sizes: Vec::new(alloc),
+            called: Vec::new(alloc),
+        }
+    }
+
+    /// Translates the bodies of the groups that are called from the tree, as deep as calls may nest, so that calls in it can be translated.
+    /// The groups are counted from where they were counted before. The error is that of a class.
+    pub fn write_calls(&mut self, expr: &Expr, bodies: &[&Expr]) -> Result<(), CompileError>
+        ensures unicode { self.new.unicode ≡ self.old.unicode }
+        ensures groups { IfOk result (λ _. self.new.next_group ≡ self.old.next_group) }
+        ensures sizes { IfOk result (λ _. AreCallSizes (map body_tree bodies.now) self.new.sizes.items) }
+        ensures calls { IfOk result (λ _. self.old.matchers.items ≡ [] → self.old.called.items ≡ []
+            → WritesCalls (map body_tree bodies.now) (tree_of expr.now) self.old.unicode self.new) }
+        ensures refused { IfErr result (IsBodyCause self.old.unicode (map body_tree bodies.now)
+            (IsReached (map body_tree bodies.now) (tree_of expr.now))) }
+    {
+        let first = self.next_group;
+        let sizes = group_call_sizes(self.alloc, bodies)?;
+        self.sizes = sizes;
+        let tables = called_by_depth(self.alloc, expr, bodies)?;
+        let nesting = greatest_nesting(bodies.len());
+        for depth in 0..nesting {
+            let next = self.bodies_called(bodies, &tables[nesting - 1 - depth])?;
+            self.called = next;
+        }
+        self.next_group = first;
+        Ok(())
+    }
+
+    /// What calls of the marked groups become, where their own calls become what is known now. The error is that of a class.
+    fn bodies_called(
+        &mut self,
+        bodies: &[&Expr],
+        marks: &[bool],
+    ) -> Result<Vec<Option<Callee>>, CompileError>
+        ensures unicode { self.new.unicode ≡ self.old.unicode }
+        ensures tables { (self.new.sizes ≡ self.old.sizes) × (self.new.called ≡ self.old.called) }
+        ensures level { IfOk result (λ next. MakesLevel (map body_tree bodies.now) marks.now self.old self.new next.items (length bodies.now)) }
+        ensures refused { IfErr result (IsBodyCause self.old.unicode (map body_tree bodies.now) (λ j. mark_at marks.now j ≡ true)) }
+    {
+        let known = are_known(self.alloc, &self.called)?;
+        let mut next = Vec::new(self.alloc);
+        for group in 0..bodies.len() {
+            let is_called = is_set(marks, group);
+            let made = self.callee_if(is_called, bodies[group], &known, group)?;
+            add(&mut next, made)?;
+        }
+        Ok(next)
+    }
+
+    /// What a call of a group becomes that has this body and number, if it is called and each call in its body is known. The error is that of
+    /// a class.
+    fn callee_if(
+        &mut self,
+        is_called: bool,
+        body: &Expr,
+        known: &[bool],
+        group: usize,
+    ) -> Result<Option<Callee>, CompileError>
+        ensures unicode { self.new.unicode ≡ self.old.unicode }
+        ensures tables { (self.new.sizes ≡ self.old.sizes) × (self.new.called ≡ self.old.called) }
+        ensures made { IfOk result (IsCalleeOf known.now is_called (tree_of body.now) group self.old self.new) }
+        ensures called { IfErr result (λ _. is_called ≡ true) }
+        ensures refused { IfErr result (IsClassCause self.old.unicode (classes (tree_of body.now))) }
+    {
+        if !is_called {
+            return Ok(None);
+        }
+        if !is_regular(body, known) {
+            return Ok(None);
+        }
+        let made = self.callee(body, group)?;
+        Ok(Some(made))
+    }
+
+    /// What a call of a group becomes that has this body and number. The error is that of a class.
+    fn callee(&mut self, body: &Expr, group: usize) -> Result<Callee, CompileError>
+        ensures unicode { self.new.unicode ≡ self.old.unicode }
+        ensures tables { (self.new.sizes ≡ self.old.sizes) × (self.new.called ≡ self.old.called) }
+        ensures matchers { IfOk result (λ _. AddsMatchers self.old self.new (classes (tree_of body.now))) }
+        ensures refused { IfErr result (IsClassCause self.old.unicode (classes (tree_of body.now))) }
+        ensures shape { IfOk result (λ callee. IsWritable (tree_of body.now) → (groups : List Tree)
+            → AreCallSizes groups self.old.sizes.items → shape callee.node
+            ≡ re_of self.old.unicode groups (called_in self.old.called.items) (group + 1) (length self.old.matchers.items) (tree_of body.now)) }
+    {
+        self.next_group = group.checked_add(1).ok_or(CompileError::Memory)?;
+        let Translated { node, moves } = self.translated(body)?;
+        Ok(Callee { node, moves })
+    }
+
+    /// What a call of the group becomes: the pattern of its body, without its own pair. Nothing where it is not known. The error is want of
+    /// memory.
+    fn call(&self, group: usize) -> Result<Translated, AllocError>
+        ensures shape { IfOk result (λ translated. shape translated.node ≡ called_in self.now.called.items group) }
+        ensures moves { IfOk result (λ translated. translated.moves ≡ never_empty (shape translated.node)) }
+        ensures sound { IfOk result (λ translated. IsSound (shape translated.node)) }
+    {
+        match self.called.get(group) {
+            Some(known) => call_of(self.alloc, known),
+            None => Ok(Translated::empty()),
         }
     }
 
@@ -325,14 +448,16 @@ impl Translator {
     #[tactic(auto, unfolding(crate::specs::Plain::re_of, crate::specs::Plain::classes, fancy_regex_meaning::specs::Groups::group_count))]
     pub fn translated(&mut self, expr: &Expr) -> Result<Translated, CompileError>
         ensures unicode { self.new.unicode ≡ self.old.unicode }
-        ensures groups { IfOk result (λ _. IsRegular (tree_of expr.now)
+        ensures tables { (self.new.sizes ≡ self.old.sizes) × (self.new.called ≡ self.old.called) }
+        ensures groups { IfOk result (λ _. IsWritable (tree_of expr.now)
             → self.new.next_group ≡ self.old.next_group + group_count (tree_of expr.now)) }
         ensures matchers { IfOk result (λ _. AddsMatchers self.old self.new (classes (tree_of expr.now))) }
         ensures moves { IfOk result (λ translated. translated.moves ≡ never_empty (shape translated.node)) }
         ensures sound { IfOk result (λ translated. IsSound (shape translated.node)) }
         ensures refused { IfErr result (IsClassCause self.old.unicode (classes (tree_of expr.now))) }
-        ensures shape { IfOk result (λ translated. IsRegular (tree_of expr.now) → (groups : List Tree) → shape translated.node
-            ≡ re_of self.old.unicode groups self.old.next_group (length self.old.matchers.items) (tree_of expr.now)) }
+        ensures shape { IfOk result (λ translated. IsWritable (tree_of expr.now) → (groups : List Tree)
+            → AreCallSizes groups self.old.sizes.items → shape translated.node
+            ≡ re_of self.old.unicode groups (called_in self.old.called.items) self.old.next_group (length self.old.matchers.items) (tree_of expr.now)) }
     {
         match expr {
             Expr::Any { newline, crlf } => Ok(Translated::moving(Node::Read(Leaf::Any {
@@ -381,6 +506,10 @@ impl Translator {
             Expr::ContinueFromPreviousMatchEnd => {
                 Ok(Translated::still(Node::Look(Test::Continue)))
             }
+            Expr::SubroutineCall(group) => {
+                let made = self.call(*group)?;
+                Ok(made)
+            }
             _ => Ok(Translated::still(Node::Empty)),
         }
     }
@@ -389,16 +518,17 @@ impl Translator {
     #[cycle(build)]
     fn look_around(&mut self, child: &Expr, look: LookAround) -> Result<Translated, CompileError>
         ensures unicode { self.new.unicode ≡ self.old.unicode }
-        ensures groups { IfOk result (λ _. IsRegular (look_around (tree_of child.now) look)
+        ensures tables { (self.new.sizes ≡ self.old.sizes) × (self.new.called ≡ self.old.called) }
+        ensures groups { IfOk result (λ _. IsWritable (look_around (tree_of child.now) look)
             → self.new.next_group ≡ self.old.next_group + group_count (tree_of child.now)) }
         ensures matchers { IfOk result (λ _. AddsMatchers self.old self.new (classes (tree_of child.now))) }
         ensures moves { IfOk result (λ translated. translated.moves ≡ false) }
         ensures still { IfOk result (λ translated. never_empty (shape translated.node) ≡ false) }
         ensures sound { IfOk result (λ translated. IsSound (shape translated.node)) }
         ensures refused { IfErr result (IsClassCause self.old.unicode (classes (tree_of child.now))) }
-        ensures shape { IfOk result (λ translated. IsRegular (look_around (tree_of child.now) look) → (groups : List Tree)
-            → shape translated.node ≡ around self.old.unicode groups self.old.next_group (length self.old.matchers.items) look
-            (re_of self.old.unicode groups self.old.next_group (length self.old.matchers.items) (tree_of child.now)) (tree_of child.now)) }
+        ensures shape { IfOk result (λ translated. IsWritable (look_around (tree_of child.now) look) → (groups : List Tree)
+            → AreCallSizes groups self.old.sizes.items → shape translated.node ≡ around self.old.unicode groups (called_in self.old.called.items) self.old.next_group (length self.old.matchers.items) look
+            (re_of self.old.unicode groups (called_in self.old.called.items) self.old.next_group (length self.old.matchers.items) (tree_of child.now)) (tree_of child.now)) }
     {
         if is_one_char(child) {
             let leaf = self.leaf(child)?;
@@ -408,7 +538,7 @@ impl Translator {
         if !is_behind(look) {
             return self.asking(child, negated, 0);
         }
-        let size = size_in(child, &[]);
+        let size = size_in(child, &self.sizes);
         if size.always {
             return self.asking(child, negated, size.least);
         }
@@ -427,15 +557,17 @@ impl Translator {
         back: usize,
     ) -> Result<Translated, CompileError>
         ensures unicode { self.new.unicode ≡ self.old.unicode }
-        ensures groups { IfOk result (λ _. IsRegular (tree_of child.now)
+        ensures tables { (self.new.sizes ≡ self.old.sizes) × (self.new.called ≡ self.old.called) }
+        ensures groups { IfOk result (λ _. IsWritable (tree_of child.now)
             → self.new.next_group ≡ self.old.next_group + group_count (tree_of child.now)) }
         ensures matchers { IfOk result (λ _. AddsMatchers self.old self.new (classes (tree_of child.now))) }
         ensures moves { IfOk result (λ translated. translated.moves ≡ false) }
         ensures still { IfOk result (λ translated. never_empty (shape translated.node) ≡ false) }
         ensures sound { IfOk result (λ translated. IsSound (shape translated.node)) }
         ensures refused { IfErr result (IsClassCause self.old.unicode (classes (tree_of child.now))) }
-        ensures shape { IfOk result (λ translated. IsRegular (tree_of child.now) → (groups : List Tree) → shape translated.node
-            ≡ re.ask negated back (re_of self.old.unicode groups self.old.next_group
+        ensures shape { IfOk result (λ translated. IsWritable (tree_of child.now) → (groups : List Tree)
+            → AreCallSizes groups self.old.sizes.items → shape translated.node
+            ≡ re.ask negated back (re_of self.old.unicode groups (called_in self.old.called.items) self.old.next_group
             (length self.old.matchers.items) (tree_of child.now))) }
     {
         let translated = self.translated(child)?;
@@ -458,15 +590,17 @@ impl Translator {
         look: LookAround,
     ) -> Result<Translated, CompileError>
         ensures unicode { self.new.unicode ≡ self.old.unicode }
-        ensures groups { IfOk result (λ _. AreRegular (all_trees children.now)
+        ensures tables { (self.new.sizes ≡ self.old.sizes) × (self.new.called ≡ self.old.called) }
+        ensures groups { IfOk result (λ _. AreWritable (all_trees children.now)
             → self.new.next_group ≡ self.old.next_group + row_group_count (all_trees children.now)) }
         ensures matchers { IfOk result (λ _. AddsMatchers self.old self.new (row_classes (all_trees children.now))) }
         ensures moves { IfOk result (λ translated. translated.moves ≡ false) }
         ensures still { IfOk result (λ translated. never_empty (shape translated.node) ≡ false) }
         ensures sound { IfOk result (λ translated. IsSound (shape translated.node)) }
         ensures refused { IfErr result (IsClassCause self.old.unicode (row_classes (all_trees children.now))) }
-        ensures shape { IfOk result (λ translated. AreRegular (all_trees children.now) → (groups : List Tree) → shape translated.node
-            ≡ joined (is_negated_look look) (each_around self.old.unicode groups self.old.next_group (length self.old.matchers.items) look
+        ensures shape { IfOk result (λ translated. AreWritable (all_trees children.now) → (groups : List Tree)
+            → AreCallSizes groups self.old.sizes.items → shape translated.node
+            ≡ joined (is_negated_look look) (each_around self.old.unicode groups (called_in self.old.called.items) self.old.next_group (length self.old.matchers.items) look
             (all_trees children.now))) }
     {
         let mut parts = Vec::new(self.alloc);
@@ -481,14 +615,16 @@ impl Translator {
     #[cycle(build)]
     fn atomic(&mut self, child: &Expr) -> Result<Translated, CompileError>
         ensures unicode { self.new.unicode ≡ self.old.unicode }
-        ensures groups { IfOk result (λ _. IsRegular (tree_of child.now)
+        ensures tables { (self.new.sizes ≡ self.old.sizes) × (self.new.called ≡ self.old.called) }
+        ensures groups { IfOk result (λ _. IsWritable (tree_of child.now)
             → self.new.next_group ≡ self.old.next_group + group_count (tree_of child.now)) }
         ensures matchers { IfOk result (λ _. AddsMatchers self.old self.new (classes (tree_of child.now))) }
         ensures moves { IfOk result (λ translated. translated.moves ≡ never_empty (shape translated.node)) }
         ensures sound { IfOk result (λ translated. IsSound (shape translated.node)) }
         ensures refused { IfErr result (IsClassCause self.old.unicode (classes (tree_of child.now))) }
-        ensures shape { IfOk result (λ translated. IsRegular (tree_of child.now) → (groups : List Tree) → shape translated.node
-            ≡ re.atomic (re_of self.old.unicode groups self.old.next_group (length self.old.matchers.items) (tree_of child.now))) }
+        ensures shape { IfOk result (λ translated. IsWritable (tree_of child.now) → (groups : List Tree)
+            → AreCallSizes groups self.old.sizes.items → shape translated.node
+            ≡ re.atomic (re_of self.old.unicode groups (called_in self.old.called.items) self.old.next_group (length self.old.matchers.items) (tree_of child.now))) }
     {
         let translated = self.translated(child)?;
         Ok(Translated {
@@ -501,6 +637,7 @@ impl Translator {
     /// class.
     fn leaf(&mut self, expr: &Expr) -> Result<Option<Leaf>, CompileError>
         ensures unicode { self.new.unicode ≡ self.old.unicode }
+        ensures tables { (self.new.sizes ≡ self.old.sizes) × (self.new.called ≡ self.old.called) }
         ensures groups { self.new.next_group ≡ self.old.next_group }
         ensures matchers { IfOk result (λ _. AddsMatchers self.old self.new (char_classes (tree_of expr.now))) }
         ensures refused { IfErr result (IsClassCause self.old.unicode (char_classes (tree_of expr.now))) }
@@ -540,6 +677,7 @@ impl Translator {
     /// Translates a character class, and adds its matcher.
     fn class(&mut self, class: &str, casei: bool) -> Result<Translated, CompileError>
         ensures unicode { self.new.unicode ≡ self.old.unicode }
+        ensures tables { (self.new.sizes ≡ self.old.sizes) × (self.new.called ≡ self.old.called) }
         ensures groups { self.new.next_group ≡ self.old.next_group }
         ensures matchers { IfOk result (λ _. AddsMatchers self.old self.new ((chars class.now, casei) ∷ [])) }
         ensures moves { IfOk result (λ translated. translated.moves ≡ true) }
@@ -553,6 +691,7 @@ impl Translator {
     /// The character test of a class, whose matcher is added.
     fn class_leaf(&mut self, class: &str, casei: bool) -> Result<Leaf, CompileError>
         ensures unicode { self.new.unicode ≡ self.old.unicode }
+        ensures tables { (self.new.sizes ≡ self.old.sizes) × (self.new.called ≡ self.old.called) }
         ensures groups { self.new.next_group ≡ self.old.next_group }
         ensures matchers { IfOk result (λ _. AddsMatchers self.old self.new ((chars class.now, casei) ∷ [])) }
         ensures refused { IfErr result (IsClassCause self.old.unicode ((chars class.now, casei) ∷ [])) }
@@ -568,14 +707,16 @@ impl Translator {
     #[cycle(build)]
     fn row(&mut self, children: &[Expr]) -> Result<Translated, CompileError>
         ensures unicode { self.new.unicode ≡ self.old.unicode }
-        ensures groups { IfOk result (λ _. AreRegular (all_trees children.now)
+        ensures tables { (self.new.sizes ≡ self.old.sizes) × (self.new.called ≡ self.old.called) }
+        ensures groups { IfOk result (λ _. AreWritable (all_trees children.now)
             → self.new.next_group ≡ self.old.next_group + row_group_count (all_trees children.now)) }
         ensures matchers { IfOk result (λ _. AddsMatchers self.old self.new (row_classes (all_trees children.now))) }
         ensures moves { IfOk result (λ translated. translated.moves ≡ never_empty (shape translated.node)) }
         ensures sound { IfOk result (λ translated. IsSound (shape translated.node)) }
         ensures refused { IfErr result (IsClassCause self.old.unicode (row_classes (all_trees children.now))) }
-        ensures shape { IfOk result (λ translated. AreRegular (all_trees children.now) → (groups : List Tree) → shape translated.node
-            ≡ row_of self.old.unicode groups self.old.next_group (length self.old.matchers.items) (all_trees children.now)) }
+        ensures shape { IfOk result (λ translated. AreWritable (all_trees children.now) → (groups : List Tree)
+            → AreCallSizes groups self.old.sizes.items → shape translated.node
+            ≡ row_of self.old.unicode groups (called_in self.old.called.items) self.old.next_group (length self.old.matchers.items) (all_trees children.now)) }
     {
         let mut parts = Vec::new(self.alloc);
         let mut moves = false;
@@ -594,14 +735,16 @@ impl Translator {
     #[cycle(build)]
     fn branches(&mut self, children: &[Expr]) -> Result<Translated, CompileError>
         ensures unicode { self.new.unicode ≡ self.old.unicode }
-        ensures groups { IfOk result (λ _. AreRegular (all_trees children.now)
+        ensures tables { (self.new.sizes ≡ self.old.sizes) × (self.new.called ≡ self.old.called) }
+        ensures groups { IfOk result (λ _. AreWritable (all_trees children.now)
             → self.new.next_group ≡ self.old.next_group + row_group_count (all_trees children.now)) }
         ensures matchers { IfOk result (λ _. AddsMatchers self.old self.new (row_classes (all_trees children.now))) }
         ensures moves { IfOk result (λ translated. translated.moves ≡ never_empty (shape translated.node)) }
         ensures sound { IfOk result (λ translated. IsSound (shape translated.node)) }
         ensures refused { IfErr result (IsClassCause self.old.unicode (row_classes (all_trees children.now))) }
-        ensures shape { IfOk result (λ translated. AreRegular (all_trees children.now) → (groups : List Tree) → shape translated.node
-            ≡ branches_of self.old.unicode groups self.old.next_group (length self.old.matchers.items) (all_trees children.now)) }
+        ensures shape { IfOk result (λ translated. AreWritable (all_trees children.now) → (groups : List Tree)
+            → AreCallSizes groups self.old.sizes.items → shape translated.node
+            ≡ branches_of self.old.unicode groups (called_in self.old.called.items) self.old.next_group (length self.old.matchers.items) (all_trees children.now)) }
     {
         let mut parts = Vec::new(self.alloc);
         let mut moves = true;
@@ -621,15 +764,17 @@ impl Translator {
     #[cycle(build)]
     fn group(&mut self, child: &Expr) -> Result<Translated, CompileError>
         ensures unicode { self.new.unicode ≡ self.old.unicode }
-        ensures groups { IfOk result (λ _. IsRegular (tree_of child.now)
+        ensures tables { (self.new.sizes ≡ self.old.sizes) × (self.new.called ≡ self.old.called) }
+        ensures groups { IfOk result (λ _. IsWritable (tree_of child.now)
             → self.new.next_group ≡ self.old.next_group + (group_count (tree_of child.now) + 1)) }
         ensures matchers { IfOk result (λ _. AddsMatchers self.old self.new (classes (tree_of child.now))) }
         ensures moves { IfOk result (λ translated. translated.moves ≡ never_empty (shape translated.node)) }
         ensures sound { IfOk result (λ translated. IsSound (shape translated.node)) }
         ensures refused { IfErr result (IsClassCause self.old.unicode (classes (tree_of child.now))) }
-        ensures shape { IfOk result (λ translated. IsRegular (tree_of child.now) → (groups : List Tree) → shape translated.node
+        ensures shape { IfOk result (λ translated. IsWritable (tree_of child.now) → (groups : List Tree)
+            → AreCallSizes groups self.old.sizes.items → shape translated.node
             ≡ re.group self.old.next_group
-            (re_of self.old.unicode groups (self.old.next_group + 1) (length self.old.matchers.items) (tree_of child.now))) }
+            (re_of self.old.unicode groups (called_in self.old.called.items) (self.old.next_group + 1) (length self.old.matchers.items) (tree_of child.now))) }
     {
         let number = self.next_group;
         self.next_group = number.checked_add(1).ok_or(CompileError::Memory)?;
@@ -653,7 +798,8 @@ impl Translator {
         greedy: bool,
     ) -> Result<Translated, CompileError>
         ensures unicode { self.new.unicode ≡ self.old.unicode }
-        ensures groups { IfOk result (λ _. IsRegular (tree_of child.now)
+        ensures tables { (self.new.sizes ≡ self.old.sizes) × (self.new.called ≡ self.old.called) }
+        ensures groups { IfOk result (λ _. IsWritable (repeat (tree_of child.now) lo hi greedy)
             → self.new.next_group ≡ self.old.next_group + group_count (tree_of child.now)) }
         ensures matchers { IfOk result (λ _. AddsMatchers self.old self.new
             (if has_no_iteration lo hi then [] else classes (tree_of child.now))) }
@@ -661,9 +807,11 @@ impl Translator {
         ensures moves { IfOk result (λ translated. translated.moves ≡ never_empty (shape translated.node)) }
         ensures refused { IfErr result (IsClassCause self.old.unicode
             (if has_no_iteration lo hi then [] else classes (tree_of child.now))) }
-        ensures shape { IfOk result (λ translated. IsRegular (tree_of child.now) → (groups : List Tree) → shape translated.node
-            ≡ unless (has_no_iteration lo hi) (re.repeat lo hi greedy (not (may_be_empty groups (tree_of child.now)))
-            (re_of self.old.unicode groups self.old.next_group (length self.old.matchers.items) (tree_of child.now)))) }
+        ensures shape { IfOk result (λ translated. IsWritable (repeat (tree_of child.now) lo hi greedy) → (groups : List Tree)
+            → AreCallSizes groups self.old.sizes.items → shape translated.node
+            ≡ unless (has_no_iteration lo hi) (re.repeat lo hi greedy (never_empty
+            (re_of self.old.unicode groups (called_in self.old.called.items) self.old.next_group (length self.old.matchers.items) (tree_of child.now)))
+            (re_of self.old.unicode groups (called_in self.old.called.items) self.old.next_group (length self.old.matchers.items) (tree_of child.now)))) }
     {
         if is_never_repeated(lo, hi) {
             self.skip_groups(child)?;
@@ -687,6 +835,7 @@ impl Translator {
     /// Counts the groups of an expression that is left out.
     fn skip_groups(&mut self, child: &Expr) -> Result<(), CompileError>
         ensures unicode { self.new.unicode ≡ self.old.unicode }
+        ensures tables { (self.new.sizes ≡ self.old.sizes) × (self.new.called ≡ self.old.called) }
         ensures matchers { self.new.matchers ≡ self.old.matchers }
         ensures groups { IfOk result (λ _. self.new.next_group ≡ self.old.next_group + group_count (tree_of child.now)) }
         ensures refused { IfErr result (λ error. error ≡ errors.Memory) }
@@ -698,6 +847,36 @@ impl Translator {
             .ok_or(CompileError::Memory)?;
         Ok(())
     }
+}
+
+/// What a call becomes: a copy of what is known, or nothing. The error is want of memory.
+fn call_of(alloc: Global, known: &Option<Callee>) -> Result<Translated, AllocError>
+    ensures shape { IfOk result (λ translated. shape translated.node ≡ callee_shape known.now) }
+    ensures moves { IfOk result (λ translated. translated.moves ≡ never_empty (shape translated.node)) }
+    ensures sound { IfOk result (λ translated. IsSound (shape translated.node)) }
+{
+    match known {
+        Some(made) => {
+            let node = copied(alloc, &made.node)?;
+            Ok(Translated {
+                node,
+                moves: made.moves,
+            })
+        }
+        None => Ok(Translated::empty()),
+    }
+}
+
+/// For each group whether it is known what a call of it becomes. The error is want of memory.
+fn are_known(alloc: Global, called: &[Option<Callee>]) -> Result<Vec<bool>, AllocError>
+    ensures { IfOk result (λ known. (j : ℕ) → mark_at known.items j ≡ is_made called.now j) }
+{
+    let mut known = Vec::new(alloc);
+    for i in 0..called.len() {
+        let made = called[i].is_some();
+        known.push(made)?;
+    }
+    Ok(known)
 }
 
 /// Whether a conditional always consumes a character, where its condition and its branches do or do not.
@@ -733,7 +912,7 @@ fn conditional_of(
 }
 
 /// Whether a quantifier with these counts repeats its body zero times.
-fn is_never_repeated(lo: usize, hi: usize) -> bool
+pub fn is_never_repeated(lo: usize, hi: usize) -> bool
     ensures { result ≡ has_no_iteration lo hi }
 {
     lo == 0 && hi == 0
@@ -769,40 +948,54 @@ fn are_supported(children: &[Expr]) -> bool
     true
 }
 
-/// Whether the tree becomes a pattern with parts.
+/// Whether the tree becomes a pattern with parts, where the calls of the marked groups do.
 #[cycle(regular)]
-pub fn is_regular(expr: &Expr) -> bool
-    ensures regular { result ≡ true → IsRegular (tree_of expr.now) }
-    ensures other { result ≡ false → IsRegular (tree_of expr.now) → ⊥ }
+pub fn is_regular(expr: &Expr, calls: &[bool]) -> bool
+    ensures regular { result ≡ true → IsRegular (λ j. mark_at calls.now j ≡ true) (tree_of expr.now) }
+    ensures other { result ≡ false → IsRegular (λ j. mark_at calls.now j ≡ true) (tree_of expr.now) → ⊥ }
 {
     match expr {
         Expr::Empty | Expr::Any { .. } | Expr::Literal { .. } | Expr::Delegate { .. } => true,
         Expr::Assertion(_) | Expr::GeneralNewline { .. } | Expr::ContinueFromPreviousMatchEnd =>
             true,
-        Expr::Concat(children) => are_regular(children),
-        Expr::Alt(children) => !children.is_empty() && are_regular(children),
+        Expr::Concat(children) => are_regular(children, calls),
+        Expr::Alt(children) => !children.is_empty() && are_regular(children, calls),
         Expr::BacktrackingControlVerb(BacktrackingControlVerb::Fail) => true,
-        Expr::Group(child) | Expr::AtomicGroup(child) => is_regular(child),
+        Expr::Group(child) | Expr::AtomicGroup(child) => is_regular(child, calls),
         Expr::Conditional {
             condition,
             true_branch,
             false_branch,
-        } => is_regular(condition) && is_regular(true_branch) && is_regular(false_branch),
+        } => {
+            let first = is_regular(condition, calls);
+            let yes = is_regular(true_branch, calls);
+            let no = is_regular(false_branch, calls);
+            are_all(first, yes, no)
+        }
         Expr::DefineGroup { .. } => true,
-        Expr::Repeat { child, .. } => is_regular(child),
-        Expr::LookAround(child, _) => is_regular(child),
+        Expr::Repeat { child, lo, hi, .. } => is_never_repeated(*lo, *hi)
+            || is_regular(child, calls),
+        Expr::LookAround(child, _) => is_regular(child, calls),
+        Expr::SubroutineCall(group) => is_set(calls, *group),
         _ => false,
     }
 }
 
+/// Whether all three are so.
+fn are_all(first: bool, second: bool, third: bool) -> bool
+    ensures { result ≡ (first && second && third) }
+{
+    first && second && third
+}
+
 /// Whether all these trees become patterns with parts.
 #[cycle(regular)]
-fn are_regular(children: &[Expr]) -> bool
-    ensures regular { result ≡ true → AreRegular (all_trees children.now) }
-    ensures other { result ≡ false → AreRegular (all_trees children.now) → ⊥ }
+fn are_regular(children: &[Expr], calls: &[bool]) -> bool
+    ensures regular { result ≡ true → AreRegular (λ j. mark_at calls.now j ≡ true) (all_trees children.now) }
+    ensures other { result ≡ false → AreRegular (λ j. mark_at calls.now j ≡ true) (all_trees children.now) → ⊥ }
 {
     for i in 0..children.len() {
-        if !is_regular(&children[i]) {
+        if !is_regular(&children[i], calls) {
             return false;
         }
     }

@@ -1,16 +1,20 @@
 //! The states of patterns with parts.
 
-ghost use Rattle.std.specs.Prelude.{◌≡◌, ◌∷◌, ◌↔◌, [], ℕ, true, Bool, List, IfErr, IfOk, IfSome, IsSome};
+ghost use Rattle.std.specs.Prelude.{◌≡◌, ◌↔◌, ◌<◌, ◌≤◌, true, false, Bool, min, map, IfErr, IfOk, IfSome, IsSome};
 ghost use Rattle.fancy_regex_tree.specs.Tree.{Tree, tree_of};
-ghost use Rattle.fancy_regex_states.specs.declared.state.State.TheVariants.{Match};
+ghost use Rattle.fancy_regex_meaning.specs.Sizes.{unbounded};
+ghost use Rattle.fancy_regex_info.specs.Views.{body_tree};
+ghost use Rattle.fancy_regex_linear.specs.Calls.{IsWrittenOut, written_weight as weight_is};
 
 use crate::build::{Translator, is_regular};
+use crate::calls::{call_weights, callable_groups, weight_of};
 use crate::emit::emit;
 use crate::state::add;
 use fancy_regex_class::CharClassMatcher;
-use fancy_regex_info::{CompileError, CompileOptions, Info};
+use fancy_regex_info::{CompileError, CompileOptions, Info, group_call_sizes, groups_of};
 use fancy_regex_states::State;
-use std::alloc::Global;
+use fancy_regex_tree::Expr;
+use std::alloc::{AllocError, Global};
 
 /// The greatest weight of a pattern that becomes states with parts.
 const GREATEST_WEIGHT: u64 = 4_000;
@@ -27,31 +31,77 @@ pub struct RegularStates {
     pub matchers: Vec<CharClassMatcher>,
 }
 
+/// Whether a pattern may weigh so much.
+fn is_light(weight: u64) -> bool
+    ensures light { result ≡ true → weight ≤ 4000 }
+    ensures heavy { result ≡ false → 4000 < weight }
+{
+    weight <= GREATEST_WEIGHT
+}
+
+/// Whether the tree with its calls written out is regular, where the groups have these bodies. The error is want of memory.
+fn is_written_out(alloc: Global, expr: &Expr, bodies: &[&Expr]) -> Result<bool, AllocError>
+    ensures { IfOk result (λ regular. (regular ≡ true) ↔ IsWrittenOut (map body_tree bodies.now) (tree_of expr.now)) }
+{
+    let all = vec![in alloc; true; bodies.len()]?;
+    let possible = is_regular(expr, &all);
+    if !possible {
+        return Ok(false);
+    }
+    let callable = callable_groups(alloc, bodies)?;
+    let regular = is_regular(expr, &callable);
+    Ok(regular)
+}
+
+/// The weight of the tree, each call counted as the body of its group and twice its depth; it stops at the greatest number of 64 bits. The
+/// error is want of memory.
+fn written_weight(alloc: Global, expr: &Expr, bodies: &[&Expr]) -> Result<u64, AllocError>
+    ensures { IfOk result (λ weight. weight ≡ min unbounded (weight_is (map body_tree bodies.now) (tree_of expr.now))) }
+{
+    let sizes = group_call_sizes(alloc, bodies)?;
+    let weights = call_weights(alloc, bodies, &sizes)?;
+    let weight = weight_of(expr, &sizes, &weights);
+    Ok(weight)
+}
+
 impl RegularStates {
-    ghost use Rattle.fancy_regex_linear.specs.Plain.{IsRegular, classes, re_of};
-    ghost use Rattle.fancy_regex_linear.specs.Program.{emitted};
-    ghost use Rattle.fancy_regex_linear.specs.Refusals.{IsClassCause};
-    ghost use Rattle.fancy_regex_linear.specs.RegularStates.{AreRegularStates, IsMadeFor};
+    ghost use Rattle.fancy_regex_linear.specs.Easy.{IsMade};
+    ghost use Rattle.fancy_regex_linear.specs.Plain.{IsRegular};
+    ghost use Rattle.fancy_regex_linear.specs.CalledClasses.{IsWrittenCause};
+    ghost use Rattle.fancy_regex_linear.specs.RegularStates.{AreRegularStates, IsMadeFor, IsMadeOrShort};
     ghost use Rattle.fancy_regex_info.specs.Analysis.{analysis};
     ghost use Rattle.fancy_regex_info.specs.Infos.{info_of};
     ghost use Rattle.fancy_regex_info.specs.declared.info.Info.{out-Info};
     ghost use Rattle.fancy_regex_info.specs.Views.{pattern_in};
 
-    /// Whether an analyzed pattern becomes such states: its weight is at most 4,000, and it has no more than characters, `\R`, `\G`,
-    /// `(*FAIL)`, assertions, definitions, and look-arounds, groups, atomic groups, conditionals, alternations and repeats of these.
-    pub fn are_made_for(info: &Info<'_>) -> bool
-        ensures regular { result ≡ true → IsRegular (tree_of (out-Info info.now).expr.now) }
-        ensures exact { (explicit : Bool) (t : Tree) → info_of info.now ≡ analysis explicit t
-            → (result ≡ true ↔ IsMadeFor (pattern_in explicit t)) }
+    /// Whether an analyzed pattern becomes such states: it weighs 4,000 at most, each call counted as the body of its group and twice its
+    /// depth, and has no more than characters, `\R`, `\G`, `(*FAIL)`, assertions, definitions, look-arounds, groups, atomic groups,
+    /// conditionals, alternations and repeats of these, and calls of groups of these that do not recur and nest no deeper than 18. The error
+    /// is want of memory, only where the tree has calls.
+    pub fn are_made_for(alloc: Global, info: &Info<'_>) -> Result<bool, AllocError>
+        ensures exact { IfOk result (λ made. (explicit : Bool) (t : Tree) → info_of info.now ≡ analysis explicit t
+            → (made ≡ true ↔ IsMadeFor (pattern_in explicit t))) }
+        ensures calls { IfErr result (λ _. IsRegular (λ j. ⊥) (tree_of (out-Info info.now).expr.now) → ⊥) }
     {
-        if info.weight > GREATEST_WEIGHT {
-            return false;
+        if is_regular(info.expr, &[]) {
+            let alone = weight_of(info.expr, &[], &[]);
+            let light = is_light(alone);
+            return Ok(light);
         }
-        is_regular(info.expr)
+        let explicit = info.start_group() == 0;
+        let bodies = groups_of(alloc, info.expr, explicit)?;
+        let regular = is_written_out(alloc, info.expr, &bodies)?;
+        if !regular {
+            return Ok(false);
+        }
+        let weight = written_weight(alloc, info.expr, &bodies)?;
+        let made = is_light(weight);
+        Ok(made)
     }
 
-    /// The states of an analyzed pattern; `None` where it becomes none (`are_made_for`): then there is no error. The error is
-    /// `InnerError` with the text of a class that `regex` refuses, or `Memory`.
+    /// The states of an analyzed pattern; `None` where it becomes none (`are_made_for`): then there is no error but want of memory where it
+    /// has calls. The error is `InnerError` with the text of a class that `regex` refuses, of the tree or of the body of a group that is called
+    /// in it, or `Memory`.
     pub fn new(
         alloc: Global,
         info: &Info<'_>,
@@ -59,20 +109,22 @@ impl RegularStates {
     ) -> Result<Option<RegularStates>, CompileError>
         ensures made { IfOk result (λ found. IfSome found (λ made. (explicit : Bool) (t : Tree) → info_of info.now ≡ analysis explicit t
             → AreRegularStates options.now.unicode made.states.items made.entry made.matchers.items (pattern_in explicit t))) }
-        ensures program { IfOk result (λ found. IfSome found (λ made. (groups : List Tree) → (first : ℕ)
-            × (emitted (re_of options.now.unicode groups first 0 (tree_of (out-Info info.now).expr.now)) (Match ∷ []) 0
-            ≡ (made.states.items, made.entry)))) }
+        ensures program { IfOk result (λ found. IfSome found (λ made. IsMade made.states.items made.entry)) }
         ensures exact { IfOk result (λ found. (explicit : Bool) (t : Tree) → info_of info.now ≡ analysis explicit t
             → (IsSome found ↔ IsMadeFor (pattern_in explicit t))) }
-        ensures refused { IfErr result (IsClassCause options.now.unicode (classes (tree_of (out-Info info.now).expr.now))) }
-        ensures only { IfErr result (λ _. (explicit : Bool) (t : Tree) → info_of info.now ≡ analysis explicit t
-            → IsMadeFor (pattern_in explicit t)) }
+        ensures refused { IfErr result (λ error. (explicit : Bool) (t : Tree) → info_of info.now ≡ analysis explicit t
+            → IsWrittenCause options.now.unicode (pattern_in explicit t) error) }
+        ensures only { IfErr result (λ error. (explicit : Bool) (t : Tree) → info_of info.now ≡ analysis explicit t
+            → IsMadeOrShort (pattern_in explicit t) error) }
     {
-        if !RegularStates::are_made_for(info) {
+        let is_made = RegularStates::are_made_for(alloc, info)?;
+        if !is_made {
             return Ok(None);
         }
         let explicit = info.start_group() == 0;
+        let bodies = groups_of(alloc, info.expr, explicit)?;
         let mut translator = Translator::new(alloc, options.unicode, explicit);
+        translator.write_calls(info.expr, &bodies)?;
         let translated = translator.translated(info.expr)?;
         let mut states = Vec::new(alloc);
         add(&mut states, State::Match)?;

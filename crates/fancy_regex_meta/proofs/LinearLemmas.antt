@@ -1,10 +1,10 @@
 -- That a pattern is linear is decided by its strategy, and its searches tell no limit.
 use mathlib.Core.HLevel.{Π_prop, ×_prop, Unit-prop, ⊥_prop}
 use mathlib.Core.Logic.{∥∥₁_elim}
-use Rattle.std.proofs.Common.{◌≡◌, ◌⊎◌, ◌↔◌, ◌∙◌, ⊎_elim, inl, inr, Bool, true, false, true≢false, List, ℕ, refl, sym, ap, subst}
+use Rattle.std.proofs.Common.{◌≡◌, ◌⊎◌, ◌↔◌, ◌∙◌, ⊎_elim, inl, inr, Bool, true, false, true≢false, List, ℕ, zero, suc, length, Option, Some, None, refl, sym, ap, subst}
 use Rattle.std.proofs.Math.Bool.{Bool-set}
 use Rattle.std.proofs.Math.Bridge.{le_prop}
-use Rattle.fancy_regex_tree.specs.Tree.{Tree, Trees, tree_of, empty, any, assertion, general_newline, literal, concat, alt, group, look_around, repeat, delegate, atomic_group, conditional, verb, continue, define_group, no_trees, more_trees}
+use Rattle.fancy_regex_tree.specs.Tree.{Tree, Trees, tree_of, empty, any, assertion, general_newline, literal, concat, alt, group, look_around, repeat, delegate, atomic_group, conditional, verb, continue, define_group, subroutine_call, no_trees, more_trees}
 use Rattle.fancy_regex_tree.specs.declared.expr.BacktrackingControlVerb.{BacktrackingControlVerb}
 use Rattle.fancy_regex_tree.specs.declared.expr.BacktrackingControlVerb.TheVariants.{Fail}
 use Rattle.fancy_regex_tree.specs.declared.expr_tree.ExprTree.{ExprTree}
@@ -12,6 +12,8 @@ use Rattle.fancy_regex_meaning.specs.Groups.{Pattern, pattern_of}
 use Rattle.fancy_regex_class.specs.declared.input.RunInput.{RunInput}
 use Rattle.fancy_regex_input.specs.SearchInputs.{effective_start, run_input_of}
 use Rattle.fancy_regex_linear.specs.Plain.{IsFail, IsRegular, AreRegular}
+use Rattle.fancy_regex_linear.specs.Calls.{OfBody, greatest_nesting, IsCallable, IsWrittenOut}
+use Rattle.fancy_regex_meaning.specs.Sizes.{target}
 use Rattle.fancy_regex_regular.specs.Supported.{IsSupported}
 use Rattle.fancy_regex_meta.specs.EasyPatterns.{is_easy_tree, uses_easy, pattern_uses_easy}
 use Rattle.fancy_regex_meta.specs.LinearPatterns.{IsLinear, PatternIsLinear, is_linear_strategy}
@@ -30,32 +32,47 @@ fail_prop : (v : BacktrackingControlVerb) → IsProp (IsFail v)
 fail_prop Fail = Unit-prop
 fail_prop _ = ⊥_prop
 
-mutual
-  regular_prop : (t : Tree) → IsProp (IsRegular t)
-  regular_prop empty = Unit-prop
-  regular_prop (any newline crlf) = Unit-prop
-  regular_prop (literal val casei) = Unit-prop
-  regular_prop (delegate class casei) = Unit-prop
-  regular_prop (general_newline wide) = Unit-prop
-  regular_prop (assertion a) = Unit-prop
-  regular_prop (concat ts) = all_prop ts
-  regular_prop (alt ts) = ×_prop (Π_prop λ e. ⊥_prop) (all_prop ts)
-  regular_prop (group t) = regular_prop t
-  regular_prop (look_around t how) = regular_prop t
-  regular_prop (atomic_group t) = regular_prop t
-  regular_prop (conditional c a b) = ×_prop (regular_prop c) (×_prop (regular_prop a) (regular_prop b))
-  regular_prop (define_group t) = Unit-prop
-  regular_prop (verb v) = fail_prop v
-  regular_prop continue = Unit-prop
-  regular_prop (repeat t lo hi greedy) = regular_prop t
-  regular_prop _ = ⊥_prop
+module _ (called : ℕ → Type 0) (props : (j : ℕ) → IsProp (called j)) where
+  mutual
+    regular_prop : (t : Tree) → IsProp (IsRegular called t)
+    regular_prop empty = Unit-prop
+    regular_prop (any newline crlf) = Unit-prop
+    regular_prop (literal val casei) = Unit-prop
+    regular_prop (delegate class casei) = Unit-prop
+    regular_prop (general_newline wide) = Unit-prop
+    regular_prop (assertion a) = Unit-prop
+    regular_prop (concat ts) = all_prop ts
+    regular_prop (alt ts) = ×_prop (Π_prop λ e. ⊥_prop) (all_prop ts)
+    regular_prop (group t) = regular_prop t
+    regular_prop (look_around t how) = regular_prop t
+    regular_prop (atomic_group t) = regular_prop t
+    regular_prop (conditional c a b) = ×_prop (regular_prop c) (×_prop (regular_prop a) (regular_prop b))
+    regular_prop (define_group t) = Unit-prop
+    regular_prop (verb v) = fail_prop v
+    regular_prop continue = Unit-prop
+    regular_prop (subroutine_call j) = props j
+    regular_prop (repeat t lo hi greedy) = Π_prop λ made. regular_prop t
+    regular_prop _ = ⊥_prop
 
-  all_prop : (ts : Trees) → IsProp (AreRegular ts)
-  all_prop no_trees = Unit-prop
-  all_prop (more_trees t ts) = ×_prop (regular_prop t) (all_prop ts)
+    all_prop : (ts : Trees) → IsProp (AreRegular called ts)
+    all_prop no_trees = Unit-prop
+    all_prop (more_trees t ts) = ×_prop (regular_prop t) (all_prop ts)
+
+body_prop : (P : Tree → Type 0) → ((t : Tree) → IsProp (P t)) → (o : Option Tree) → IsProp (OfBody P o)
+body_prop P props None = ⊥_prop
+body_prop P props (Some t) = props t
+
+callable_prop : (groups : List Tree) (depth j : ℕ) → IsProp (IsCallable groups depth j)
+unfolding IsCallable
+callable_prop groups zero j = ⊥_prop
+callable_prop groups (suc depth) j =
+    body_prop (IsRegular (IsCallable groups depth)) (regular_prop (IsCallable groups depth) (callable_prop groups depth)) (target groups j)
+
+written_prop : (groups : List Tree) (t : Tree) → IsProp (IsWrittenOut groups t)
+written_prop groups = regular_prop (IsCallable groups (greatest_nesting (length groups))) (callable_prop groups (greatest_nesting (length groups)))
 
 supported_prop : (pattern : Pattern) → IsProp (IsSupported pattern)
-supported_prop pattern = hlevel (regular_prop, le_prop)
+supported_prop pattern = hlevel (written_prop, le_prop)
 
 module _ (o : RegexOptions) (t : Tree) where
   by_states : ∥ IsLinear o t ∥₁ → is_easy_tree t ≡ false → IsSupported (pattern_of t)

@@ -11,7 +11,7 @@ use Rattle.fancy_regex_class.specs.declared.input.RunInput.{RunInput}
 use Rattle.fancy_regex_input.specs.SearchInputs.{input_of, effective_start, run_input_of}
 use Rattle.fancy_regex_input.specs.declared.config.SearchConfig.{SearchConfig}
 use Rattle.fancy_regex_meta.specs.Patterns.{options_in, setting_in}
-use Rattle.fancy_regex_meta.specs.Strategies.{Executes, RunsUnder, search_of, run_options_of}
+use Rattle.fancy_regex_meta.specs.Strategies.{Executes, RunsUnder, is_whole, search_of, run_options_of}
 use Rattle.fancy_regex_meta.specs.PatternMatches.{match_from}
 use Rattle.fancy_regex_meta.specs.MetaMatches.{meta_pattern, meta_match_for, meta_match_from}
 use Rattle.fancy_regex_machine.specs.declared.error.RuntimeError.TheVariants.{BacktrackLimitExceeded, StackOverflow, Memory}
@@ -127,3 +127,10 @@ executes-under (Easy easy) o t does = tt
 executes-under (Linear linear prog) o t does = tt
 executes-under (Program prog run) o t does = does.5
 executes-under (Regular regular prog run) o t does = tt
+
+-- of what executes a tree, group 0 is the whole match
+pub executes-whole : (strategy : Strategy) (o : RegexOptions) (t : Tree) → Executes strategy o t → is_whole strategy ≡ true
+executes-whole (Easy easy) o t does = refl
+executes-whole (Linear linear prog) o t does = refl
+executes-whole (Program prog run) o t does = does.0.whole
+executes-whole (Regular regular prog run) o t does = does.1.0.whole

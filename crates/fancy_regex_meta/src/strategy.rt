@@ -2,8 +2,8 @@
 //! look-arounds for one character, half word boundaries or starts of lines of Oniguruma mode keeps its program, and may be searched by the
 //! matcher. One with look-aheads or atomic groups may keep states beside its program.
 
-ghost use Rattle.std.specs.Prelude.{◌≡◌, ◌≤◌, ◌+◌, ◌-◌, ◌*◌, ◌^◌, ◌<◌, ◌↔◌, ℕ, Option, min, true, false, not, is_some, length, IfOk, IfErr, IfSome, IsSome, option_map, IsCharBoundary};
-ghost use Rattle.fancy_regex_tree.specs.Tree.{Tree, tree_of};
+ghost use Rattle.std.specs.Prelude.{◌≡◌, ◌≤◌, ◌+◌, ◌-◌, ◌*◌, ◌^◌, ◌<◌, ◌↔◌, ℕ, Option, min, true, false, is_some, length, IfOk, IfErr, IfSome, IsSome, option_map, IsCharBoundary};
+ghost use Rattle.fancy_regex_tree.specs.Tree.{Tree};
 ghost use Rattle.fancy_regex_meaning.specs.Choices.{program_nodes};
 ghost use Rattle.fancy_regex_meaning.specs.Groups.{pattern_of};
 ghost use Rattle.fancy_regex_meaning.specs.Searches.{first_match};
@@ -15,11 +15,9 @@ ghost use Rattle.fancy_regex_info.specs.Analysis.{analysis};
 ghost use Rattle.fancy_regex_analysis.specs.AnalysisErrors.{is_too_complex};
 ghost use Rattle.fancy_regex_info.specs.Infos.{info_of};
 ghost use Rattle.fancy_regex_info.specs.declared.options.BytesMode.TheVariants.{Unicode};
-ghost use Rattle.fancy_regex_info.specs.declared.info.Info.{out-Info};
 ghost use Rattle.fancy_regex_class.specs.RunInputs.{setting_for};
-ghost use Rattle.fancy_regex_linear.specs.Plain.{classes};
-ghost use Rattle.fancy_regex_linear.specs.Refusals.{IsTaken, IsCause, IsClassCause};
-ghost use Rattle.fancy_regex_linear.specs.EasyPatterns.{IsEasyOf};
+ghost use Rattle.fancy_regex_linear.specs.Refusals.{IsTaken, IsCause};
+ghost use Rattle.fancy_regex_linear.specs.CalledClasses.{IsWrittenCause};
 ghost use Rattle.fancy_regex_machine.specs.Allowances.{IsBounded};
 ghost use Rattle.fancy_regex_meta.specs.declared.options.RegexOptions.{RegexOptions};
 ghost use Rattle.fancy_regex_meta.specs.Refusals.{compile_options_of, IsCompileRefusal};
@@ -123,7 +121,8 @@ fn linear_matcher(
         return Ok(None);
     }
     let wanted = compile_options(options, calls);
-    if !Regular::supports(info) {
+    let supported = Regular::supports(alloc, info)?;
+    if !supported {
         return Ok(None);
     }
     match Easy::if_supported(alloc, info, &wanted) {
@@ -144,7 +143,8 @@ fn regular_states(
     ensures states { IfOk result (λ found. IfSome found (λ regular. (t : Tree) → info_of info.now ≡ analysis false t
         → IsRegularFor regular options.now t)) }
     ensures exact { IfOk result (λ found. (t : Tree) → info_of info.now ≡ analysis false t → (IsSome found ↔ HasStates options.now t)) }
-    ensures refused { IfErr result (IsClassCause options.now.unicode_mode (classes (tree_of (out-Info info.now).expr.now))) }
+    ensures refused { IfErr result (λ error. (t : Tree) → info_of info.now ≡ analysis false t
+        → IsWrittenCause options.now.unicode_mode (pattern_of t) error) }
 {
     if options.find_not_empty {
         return Ok(None);
@@ -178,7 +178,8 @@ fn hard_strategy(
     ensures cap { IfOk result (λ strategy. (most : Option ℕ) → KeepsCap most prog → StrategyKeepsCap most strategy) }
     ensures linear { IfOk result (λ strategy. (t : Tree) → info_of info.now ≡ analysis false t
         → (is_linear_strategy strategy ≡ true ↔ HasStates options.now t)) }
-    ensures refused { IfErr result (IsClassCause options.now.unicode_mode (classes (tree_of (out-Info info.now).expr.now))) }
+    ensures refused { IfErr result (λ error. (t : Tree) → info_of info.now ≡ analysis false t
+        → IsWrittenCause options.now.unicode_mode (pattern_of t) error) }
 {
     let matcher = linear_matcher(alloc, info, options, calls)?;
     if let Some(linear) = matcher {

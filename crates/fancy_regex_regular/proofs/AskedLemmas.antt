@@ -1,13 +1,12 @@
 -- What the states of a pattern do in a text, where a match has to end at a place or later: an attempt finds the first of the ways from
 -- its start that end there or later.
-use Rattle.std.proofs.Common.{◌≡◌, ◌∙◌, ℕ, zero, suc, ◌+◌, ◌*◌, ◌<◌, ◌≤◌, ◌==◌, ◌&&◌, Bool, true, false, true≢false, cond, not, List, [], ◌∷◌, length, map, replicate, Option, Some, None, nat_le, set, slice_get, refl, sym, ap, ap₂, subst, inl, arith, le-leb, IsUtf8}
-use Rattle.std.specs.Prelude.{option_map, if◌then◌else◌, IsCharBoundary}
+use Rattle.std.proofs.Common.{◌≡◌, ◌∙◌, ℕ, zero, suc, ◌*◌, ◌≤◌, ◌==◌, ◌&&◌, Bool, true, false, cond, not, List, [], ◌∷◌, length, map, replicate, Option, Some, None, nat_le, set, refl, sym, ap, ap₂, subst, inl, arith, le-leb, IsUtf8}
+use Rattle.std.specs.Prelude.{option_map, if◌then◌else◌}
 use Rattle.std.specs.List.{filter}
 use Rattle.std.proofs.lemmas.Option.{none-some, same_Some}
 use Rattle.fancy_regex_meaning.specs.Groups.{Pattern}
-use Rattle.fancy_regex_meaning.specs.Searches.{Match, first_item, chosen, is_admitted, match_of, start_way, ways_at, match_at}
+use Rattle.fancy_regex_meaning.specs.Searches.{first_item, chosen, is_admitted, match_of, start_way, ways_at}
 use Rattle.fancy_regex_meaning.specs.Ways.{MatchState, Setting, ways, call_ways, max_open_calls}
-use Rattle.fancy_regex_meaning.specs.WayLaws.{Each}
 use Rattle.fancy_regex_meaning.proofs.EachLemmas.{Each-filter}
 use Rattle.fancy_regex_meaning.proofs.MatchStartProofs.{chosen_holds}
 use Rattle.fancy_regex_class.specs.RunInputs.{group_slots, match_slots, setting_for, search_for}
@@ -17,9 +16,11 @@ use Rattle.fancy_regex_states.specs.Attempts.{View, Trace, Continuation, accept,
 use Rattle.fancy_regex_states.specs.declared.state.State.{State}
 use Rattle.fancy_regex_states.specs.declared.state.State.TheVariants.{Match as End}
 use Rattle.fancy_regex_parts.specs.Does.{DoWhat, accept_in}
-use Rattle.fancy_regex_parts.specs.Ways.{Explains, admits, answer_end, ways_of, text_view}
+use Rattle.fancy_regex_parts.specs.Ways.{Explains, admits, ways_of, text_view}
 use Rattle.fancy_regex_parts.specs.declared.step.EndRange.{EndRange}
 use Rattle.fancy_regex_parts.proofs.EmittedLemmas.{explains_of}
+use Rattle.fancy_regex_tree.specs.Tree.{Text}
+use Rattle.fancy_regex_linear.specs.Calls.{IsOfTree, greatest_nesting, AreAt, IsCalled}
 use Rattle.fancy_regex_linear.specs.Attempt.{attempt, better_spot, apply, trace_end}
 use Rattle.fancy_regex_linear.specs.Easy.{found_slots, found_at}
 use Rattle.fancy_regex_linear.specs.Meaning.{Spot}
@@ -31,13 +32,16 @@ use Rattle.fancy_regex_linear.specs.RegularStates.{AreRegularStates}
 use Rattle.fancy_regex_linear.proofs.AgreeLemmas.{attempt_agree}
 use Rattle.fancy_regex_linear.proofs.CharTestLemmas.{shows_all}
 use Rattle.fancy_regex_linear.proofs.MeaningLemmas.{spot_of}
-use Rattle.fancy_regex_linear.proofs.RegularAnswerLemmas.{tried}
+use Rattle.fancy_regex_linear.proofs.ApartLemmas.{apart, called_callable}
+use Rattle.fancy_regex_linear.proofs.CallLemmas.{call_keeps_start}
+use Rattle.fancy_regex_linear.proofs.OccurrenceLemmas.{pattern_stands, pattern_bodies_stand}
+use Rattle.fancy_regex_linear.proofs.RegularAnswerLemmas.{tried, call_serves}
 use Rattle.fancy_regex_linear.proofs.RegularLemmas.{first_at, asking_view, tree_firsts}
 use Rattle.fancy_regex_linear.proofs.RegularStateLemmas.{first_is_final}
 use Rattle.fancy_regex_linear.proofs.SameStartLemmas.{regular_keeps_start}
 use Rattle.fancy_regex_linear.proofs.TreeLemmas.{emit_done, emit_both_done, may_all}
 use Rattle.fancy_regex_linear.proofs.WaysLemmas.{best_from, onward, attempt_lists}
-use Rattle.fancy_regex_regular.specs.Ends.{first_in, end_in}
+use Rattle.fancy_regex_regular.specs.Ends.{first_in}
 use Rattle.fancy_regex_regular.specs.Regulars.{ends_from, rules_at}
 use Rattle.fancy_regex_regular.proofs.ContinueLemmas.{IsPlaceFor, placed, does_placed, shows_placed}
 
@@ -133,15 +137,24 @@ slots_of pattern start end w slots at by same =
     ap₂ (λ (e : ℕ) (xs : List ℕ). found_slots (not (pattern.first_group == 0)) (found_at start e xs)) (sym by) same
     ∙ places_of (pattern.first_group == 0) (group_slots w.pairs) start w.match_start w.position at
 
-module _ (unicode : Bool) (text : List ℕ) (input : RunInput) (pattern : Pattern) (is_regular : IsRegular pattern.tree) where
+module _ (unicode : Bool) (text : List ℕ) (input : RunInput) (pattern : Pattern) (of_tree : IsOfTree pattern) (cs : List (Text × Bool)) (base : ℕ) (called : ℕ → Re)
+    (is_regular : IsRegular (λ j. IsCalled pattern.groups unicode cs (greatest_nesting (length pattern.groups)) j (called j)) pattern.tree)
+    (stand : AreAt cs base (classes pattern.tree)) where
+  -- how deep calls may nest, and what a call has to be
+  abbrev nesting : ℕ
+  nesting = greatest_nesting (length pattern.groups)
+
+  abbrev known : ℕ → Type 0
+  known j = IsCalled pattern.groups unicode cs nesting j (called j)
+
   abbrev s : Setting
   s = setting_for unicode text input
 
   abbrev re : Re
-  re = re_of unicode pattern.groups pattern.first_group 0 pattern.tree
+  re = re_of unicode pattern.groups called pattern.first_group base pattern.tree
 
   abbrev view : View
-  view = asking_view s (classes pattern.tree)
+  view = asking_view s cs
 
   abbrev pub unset : List ℕ
   unset = replicate (2 * length pattern.groups) 18446744073709551615
@@ -156,14 +169,16 @@ module _ (unicode : Bool) (text : List ℕ) (input : RunInput) (pattern : Patter
   unfolding ways
   way_from longest least p h =
       wanted_first least input.range.end (ways_at s pattern (search_for longest input) p)
-      ∙ tree_firsts s pattern.groups unicode (call_ways s pattern.groups (max_open_calls pattern.groups) []) (classes pattern.tree) (λ c. refl) pattern.first_group 0 pattern.tree is_regular
-      (λ j lt. let e : 0 + j ≡ j = omega arith in ap (slice_get (classes pattern.tree)) e) (start_way pattern p) h (admits (ends_from least input.range.end))
+      ∙ tree_firsts s pattern.groups unicode (call_ways s pattern.groups (max_open_calls pattern.groups) []) cs (λ c. refl) called known
+      (call_serves unicode text input pattern of_tree cs base called is_regular stand) pattern.first_group base pattern.tree is_regular
+      (apart pattern.groups unicode cs (pattern_bodies_stand pattern of_tree) nesting called pattern.first_group pattern.tree (pattern_stands pattern of_tree) is_regular)
+      stand (start_way pattern p) h (admits (ends_from least input.range.end))
       ∙ sym (accepted_first (ends_from least input.range.end) (plain.ways view (length text) re (spot_of (start_way pattern p))))
       ∙ sym (attempt_lists view (length text) (λ e. refl) re (may_all re) (accept_in (ends_from least input.range.end)) (spot_of (start_way pattern p)))
       ∙ ap (λ slots. trace_end slots (tried_from least p)) (no_slots (length pattern.groups))
 
   -- from the start on it is the first way at all
-  pub tried_all : (p : ℕ) → p ≤ length text → tried_from 0 p ≡ tried unicode text input pattern is_regular p
+  pub tried_all : (p : ℕ) → p ≤ length text → tried_from 0 p ≡ tried unicode text input pattern of_tree cs base called is_regular stand p
   tried_all p h =
       ap (λ r. r.answer) (attempt_agree view (length text) re (accept_in (ends_from 0 input.range.end)) (accept_by input.range.end) p h (λ j low high. from_start input.range.end j))
 
@@ -174,32 +189,34 @@ module _ (unicode : Bool) (text : List ℕ) (input : RunInput) (pattern : Patter
   begins_at longest p w e =
       chosen_holds (λ v. v.match_start ≡ p) longest _
       (Each-filter (λ v. v.match_start ≡ p) (is_admitted (search_for longest input)) _
-      (regular_keeps_start s pattern.groups (call_ways s pattern.groups (max_open_calls pattern.groups) []) pattern.first_group pattern.tree is_regular (start_way pattern p)))
+      (regular_keeps_start s pattern.groups (call_ways s pattern.groups (max_open_calls pattern.groups) []) known
+      (λ j is. call_keeps_start s pattern.groups nesting j (called_callable pattern.groups unicode cs nesting j (called j) is) (max_open_calls pattern.groups) [])
+      pattern.first_group pattern.tree is_regular (start_way pattern p)))
       w e
 
 -- What the states of a pattern do in a text, where a match has to end at a place or later.
 pub record IsAsked (unicode : Bool) (states : List State) (entry : ℕ) (matchers : List CharClassMatcher) (pattern : Pattern)
-    (text : List ℕ) (input : RunInput) (place : Option ℕ) (least : ℕ) : Type 0 where
+    (is : AreRegularStates unicode states entry matchers pattern) (text : List ℕ) (input : RunInput) (place : Option ℕ) (least : ℕ) : Type 0 where
   pub view : View
   pub go : ℕ → Continuation
   pub does : DoWhat view (length text) (ends_from least input.range.end) states go
   pub shows : ShowsAll matchers (rules_at unicode input place) text (text_view view)
   pub first : view.longest ≡ false
   pub explains : Explains matchers (rules_at unicode input place) (ends_from least input.range.end) states text (text_view view) (ways_of go)
-  pub means : (regular : IsRegular pattern.tree) (p : ℕ) → p ≤ length text
-      → (go entry p).answer ≡ tried_from unicode text input pattern regular least p
+  pub means : (p : ℕ) → p ≤ length text
+      → (go entry p).answer ≡ tried_from unicode text input pattern is.of_tree is.all_classes is.base is.called is.regular is.stand least p
 
 pub is_asked : (unicode : Bool) (states : List State) (entry : ℕ) (matchers : List CharClassMatcher) (pattern : Pattern)
-    → AreRegularStates unicode states entry matchers pattern → (text : List ℕ) (input : RunInput) (place : Option ℕ) (least : ℕ)
-    → IsPlaceFor place input states → IsUtf8 text → IsAsked unicode states entry matchers pattern text input place least
+    (is : AreRegularStates unicode states entry matchers pattern) (text : List ℕ) (input : RunInput) (place : Option ℕ) (least : ℕ)
+    → IsPlaceFor place input states → IsUtf8 text → IsAsked unicode states entry matchers pattern is text input place least
 is_asked unicode states entry matchers pattern is text input place least is_place u =
-    let re = re_of unicode pattern.groups pattern.first_group 0 pattern.tree in
-    let asking = asking_view (setting_for unicode text input) (classes pattern.tree) in
+    let re = re_of unicode pattern.groups is.called pattern.first_group is.base pattern.tree in
+    let asking = asking_view (setting_for unicode text input) is.all_classes in
     let view = placed asking place in
     let range = ends_from least input.range.end in
     let d = does_in states entry re is.sound is.program asking (length text) range refl in
     let final = first_is_final states entry re is.sound is.program in
-    let shows = shows_placed matchers unicode input place asking text (shows_all unicode false text input matchers (classes pattern.tree) is.matchers_are u) in
+    let shows = shows_placed matchers unicode input place asking text (shows_all unicode false text input matchers is.all_classes is.matchers_are u) in
     let does : DoWhat view (length text) range states d.go =
     does_placed asking input place (λ i. refl) (length text) range states d.go is_place (record { zero = d.zero_is; final = final; agree = d.agree }) in
     record {
@@ -208,6 +225,6 @@ is_asked unicode states entry matchers pattern is text input place least is_plac
       does = does;
       shows = shows;
       first = refl;
-      means = λ regular p h. ap (λ r. r.answer) (d.means p h);
+      means = λ p h. ap (λ r. r.answer) (d.means p h);
       explains = explains_of matchers (rules_at unicode input place) range text view d.go refl shows states does.zero does.final does.agree;
     }

@@ -1,5 +1,5 @@
 -- Exactly which patterns are searched by states with parts.
-use Rattle.std.proofs.Common.{◌≡◌, ◌∙◌, ℕ, ◌<◌, ◌≤◌, Bool, true, false, List, [], ◌∷◌, length, None, refl, sym, subst, ⊎_elim}
+use Rattle.std.proofs.Common.{◌≡◌, ℕ, ◌<◌, Bool, true, false, List, length, None, refl, sym, subst, ⊎_elim}
 use Rattle.fancy_regex_tree.specs.Tree.{Tree}
 use Rattle.fancy_regex_meaning.specs.Groups.{Pattern}
 use Rattle.fancy_regex_class.specs.declared.class.CharClassMatcher.{CharClassMatcher}
@@ -7,7 +7,6 @@ use Rattle.fancy_regex_info.specs.Views.{pattern_in}
 use Rattle.fancy_regex_states.specs.Attempts.{View, NamesBelow}
 use Rattle.fancy_regex_states.specs.First.{state_at}
 use Rattle.fancy_regex_states.specs.declared.state.State.{State}
-use Rattle.fancy_regex_states.specs.declared.state.State.TheVariants.{Match}
 use Rattle.fancy_regex_parts.specs.Tables.{AreClosed}
 use Rattle.fancy_regex_linear.specs.Plain.{re_of}
 use Rattle.fancy_regex_linear.specs.RegularStates.{AreRegularStates, IsMadeFor}
@@ -23,12 +22,12 @@ module _ (unicode : Bool) (states : List State) (entry : ℕ) (matchers : List C
   -- the entry is a state, and states lead to states
   pub entry_inside : entry < length states
   unfolding blind
-  entry_inside = (does_by states entry (re_of unicode pattern.groups pattern.first_group 0 pattern.tree) is.sound is.program blind 0 0 refl).entry_in
+  entry_inside = (does_by states entry (re_of unicode pattern.groups is.called pattern.first_group is.base pattern.tree) is.sound is.program blind 0 0 refl).entry_in
 
   pub states_closed : AreClosed states
   unfolding blind
   states_closed q h =
-      let re = re_of unicode pattern.groups pattern.first_group 0 pattern.tree in
+      let re = re_of unicode pattern.groups is.called pattern.first_group is.base pattern.tree in
       let d = does_by states entry re is.sound is.program blind 0 0 refl in
       ⊎_elim
       (λ (first : q ≡ 0).

@@ -1,21 +1,24 @@
 -- From where the first match starts to the end of the longest one there.
-use Rattle.std.proofs.Common.{◌≡◌, ◌∙◌, ℕ, ◌+◌, ◌<◌, ◌≤◌, Bool, true, false, List, Option, Some, None, refl, sym, ap, ap₂, subst, arith}
+use Rattle.std.proofs.Common.{◌≡◌, ◌∙◌, ℕ, ◌+◌, ◌<◌, ◌≤◌, Bool, true, false, List, length, Option, Some, None, refl, sym, ap, ap₂, subst}
 use Rattle.std.specs.Prelude.{option_map, IfSome, IsCharBoundary}
 use Rattle.std.specs.List.{filter}
 use Rattle.std.proofs.lemmas.Option.{none-some, same_Some}
 use Rattle.fancy_regex_meaning.specs.Groups.{Pattern}
-use Rattle.fancy_regex_meaning.specs.Searches.{Match, chosen, first_item, first_match, is_admitted, match_at, match_of, starts, ways_at}
+use Rattle.fancy_regex_meaning.specs.Searches.{Match, chosen, first_match, is_admitted, match_at, match_of, starts, ways_at}
 use Rattle.fancy_regex_meaning.specs.Ways.{MatchState, Setting}
 use Rattle.fancy_regex_class.specs.RunInputs.{setting_for, search_for}
 use Rattle.fancy_regex_class.specs.declared.input.RunInput.{RunInput}
 use Rattle.fancy_regex_parts.specs.Frames.{IsInReach}
 use Rattle.fancy_regex_parts.specs.declared.table.PartTable.{PartTable}
 use Rattle.fancy_regex_linear.specs.EasyPatterns.{span_of_match}
-use Rattle.fancy_regex_linear.specs.Plain.{IsRegular}
+use Rattle.fancy_regex_tree.specs.Tree.{Text}
+use Rattle.fancy_regex_linear.specs.Calls.{IsOfTree, greatest_nesting, AreAt, IsCalled}
+use Rattle.fancy_regex_linear.specs.Plain.{IsRegular, classes}
+use Rattle.fancy_regex_linear.specs.Re.{Re}
 use Rattle.fancy_regex_regular.specs.Ends.{first_in, end_in, ways_from, IsEndFrom}
 use Rattle.fancy_regex_regular.specs.declared.regular.Regular.{Regular}
 use Rattle.fancy_regex_regular.proofs.AskedLemmas.{begins_at}
-use Rattle.fancy_regex_regular.proofs.LongestLemmas.{IsLongest, first_at_all, first_start, first_there, found_between, is_longest, longest_is, longest_of, none_at_all, none_later, none_longest, none_over}
+use Rattle.fancy_regex_regular.proofs.LongestLemmas.{IsLongest, first_at_all, first_start, first_there, found_between, is_longest, longest_is, none_at_all, none_later, none_longest, none_over}
 
 -- what was mapped
 pub record IsMapped {A B : Type 0} (f : A → B) (o : Option A) (y : B) : Type 0 where
@@ -71,7 +74,9 @@ pub end_is_between : (least stop : ℕ) (ws : List MatchState) (o : Option ℕ) 
 end_is_between least stop ws None is = tt
 end_is_between least stop ws (Some e) is = end_between least stop e ws (sym is)
 
-module _ (unicode : Bool) (text : List ℕ) (input : RunInput) (pattern : Pattern) (is_regular : IsRegular pattern.tree) where
+module _ (unicode : Bool) (text : List ℕ) (input : RunInput) (pattern : Pattern) (of_tree : IsOfTree pattern) (cs : List (Text × Bool)) (base : ℕ) (called : ℕ → Re)
+    (is_regular : IsRegular (λ j. IsCalled pattern.groups unicode cs (greatest_nesting (length pattern.groups)) j (called j)) pattern.tree)
+    (stand : AreAt cs base (classes pattern.tree)) where
   abbrev s : Setting
   s = setting_for unicode text input
 
@@ -102,7 +107,7 @@ module _ (unicode : Bool) (text : List ℕ) (input : RunInput) (pattern : Patter
   unfolding match_at
   of_match longest p m e =
       let w = mapped match_of (chosen longest (admitted p)) m e in
-      record { state = w.item; chosen_is = w.is; match_is = w.value; begins = begins_at unicode text input pattern is_regular longest p w.item w.is }
+      record { state = w.item; chosen_is = w.is; match_is = w.value; begins = begins_at unicode text input pattern of_tree cs base called is_regular stand longest p w.item w.is }
 
   match_with : (longest : Bool) (p : ℕ) (w : MatchState) → chosen longest (admitted p) ≡ Some w → match_there longest p ≡ Some (match_of w)
   unfolding match_at
@@ -141,7 +146,7 @@ module _ (unicode : Bool) (text : List ℕ) (input : RunInput) (pattern : Patter
             } in
             let chosen_is : chosen true (admitted here.start) ≡ Some w.item = is_longest input (ways_there here.start) w.item longest in
             let all = here.other (match_of w.item) (match_with true here.start w.item chosen_is) in
-            ap₂ (λ (a b : ℕ). Some (a, b)) (sym (begins_at unicode text input pattern is_regular true here.start w.item chosen_is)) (sym w.value)
+            ap₂ (λ (a b : ℕ). Some (a, b)) (sym (begins_at unicode text input pattern of_tree cs base called is_regular stand true here.start w.item chosen_is)) (sym w.value)
             ∙ sym (ap (option_map span_of_match) all);
       })
 

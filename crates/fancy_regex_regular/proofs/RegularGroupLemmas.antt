@@ -148,7 +148,7 @@ last_within false first stop h = omega arith
 
 module _ (unicode : Bool) (states : List State) (entry : ℕ) (matchers : List CharClassMatcher) (pattern : Pattern)
     (is : AreRegularStates unicode states entry matchers pattern) (text : List ℕ) (input : RunInput)
-    (place : Option ℕ) (searched : IsSearched unicode states entry matchers pattern text input place) where
+    (place : Option ℕ) (searched : IsSearched unicode states entry matchers pattern is text input place) where
   abbrev places : List ℕ
   places = boundaries text input.first (last_start input)
 
@@ -159,13 +159,13 @@ module _ (unicode : Bool) (states : List State) (entry : ℕ) (matchers : List C
   ends = (ways_of searched.go).end entry
 
   abbrev attempt_from : ℕ → Option Trace
-  attempt_from = tried unicode text input pattern is.regular
+  attempt_from = tried unicode text input pattern is.of_tree is.all_classes is.base is.called is.regular is.stand
 
   abbrev answer_of : ℕ → Spot → (ℕ × ℕ) × List ℕ
-  answer_of = of_way unicode text input pattern is.regular
+  answer_of = of_way unicode text input pattern is.of_tree is.all_classes is.base is.called is.regular is.stand
 
   abbrev matched : Match → (ℕ × ℕ) × List ℕ
-  matched = of_match unicode text input pattern is.regular
+  matched = of_match unicode text input pattern is.of_tree is.all_classes is.base is.called is.regular is.stand
 
   places_within : input.first ≤ input.range.end → input.range.end ≤ length text → Each (λ q. q ≤ length text) places
   places_within below fits =
@@ -181,19 +181,19 @@ module _ (unicode : Bool) (states : List State) (entry : ℕ) (matchers : List C
       ap (λ (qs : List ℕ). option_map matched (first_some (match_at (setting_for unicode text input) pattern (search_for false input)) qs))
       (starts_are text input unicode pattern b below)
       ∙ first_some_same matched (match_at (setting_for unicode text input) pattern (search_for false input)) (answer_from ends attempt_from unset answer_of) places
-      (Each-weaker (λ q. q ≤ length text) _ (match_found unicode text input pattern is.regular) places (places_within below fits))
+      (Each-weaker (λ q. q ≤ length text) _ (match_found unicode text input pattern is.of_tree is.all_classes is.base is.called is.regular is.stand) places (places_within below fits))
 
   -- where a search finds a way, the slots that its writes leave are those of the match
   pub way_of_match : IsCharBoundary text input.first → input.first ≤ input.range.end → input.range.end ≤ length text → (p e : ℕ) → p ≤ length text
       → earliest ends places ≡ Some (p, e) → IsWayOf unicode text input pattern (searched.go entry p).answer p e
   way_of_match b below fits p e within found =
       let agree = Each-weaker (λ q. q ≤ length text) (λ q. ends q ≡ option_map (λ t. t.end) (attempt_from q))
-      (λ q h. ap (option_map (λ t. t.end)) (searched.means is.regular q h)) places (places_within below fits) in
+      (λ q h. ap (option_map (λ t. t.end)) (searched.means q h)) places (places_within below fits) in
       let way = first_way ends attempt_from unset answer_of places p e agree found in
       let fm = first_match (setting_for unicode text input) pattern (search_for false input) in
       record {
         trace = way.trace;
-        answer_is = searched.means is.regular p within ∙ way.answer;
+        answer_is = searched.means p within ∙ way.answer;
         slots_are =
             sym (map_map matched (λ both. both.1) fm)
             ∙ ap (option_map (λ both. both.1)) (all_matches b below fits ∙ way.first_is)

@@ -1,5 +1,5 @@
 -- What a search in parts finds is the span of the match of the definitions.
-use Rattle.std.proofs.Common.{◌≡◌, ◌∙◌, ℕ, ◌-◌, ◌+◌, ◌<◌, ◌≤◌, Bool, true, false, cond, List, [], ◌∷◌, length, Option, Some, None, if◌then◌else◌, nat_lt, refl, sym, ap, arith, lt-ltb, le-ltb, IsUtf8, IsCharBoundary}
+use Rattle.std.proofs.Common.{◌≡◌, ◌∙◌, ℕ, ◌-◌, ◌<◌, ◌≤◌, Bool, true, false, cond, List, [], ◌∷◌, length, Option, Some, None, if◌then◌else◌, refl, sym, ap, arith, lt-ltb, le-ltb, IsUtf8, IsCharBoundary}
 use Rattle.std.specs.Prelude.{option_map}
 use Rattle.fancy_regex_meaning.specs.Groups.{Pattern}
 use Rattle.fancy_regex_meaning.specs.Positions.{boundaries}
@@ -12,15 +12,10 @@ use Rattle.fancy_regex_states.specs.Attempts.{View, Continuation, ShowsAll}
 use Rattle.fancy_regex_states.specs.declared.state.State.{State}
 use Rattle.fancy_regex_parts.specs.Find.{earliest}
 use Rattle.fancy_regex_parts.specs.Does.{DoWhat}
-use Rattle.fancy_regex_parts.specs.Ways.{Explains, answer_end, ways_of, text_view}
-use Rattle.fancy_regex_parts.proofs.EmittedLemmas.{explains_of}
+use Rattle.fancy_regex_parts.specs.Ways.{Explains, ways_of, text_view}
 use Rattle.fancy_regex_linear.specs.EasyPatterns.{span_of_match}
-use Rattle.fancy_regex_linear.specs.Plain.{IsRegular, classes, re_of}
 use Rattle.fancy_regex_linear.specs.RegularStates.{AreRegularStates}
-use Rattle.fancy_regex_linear.proofs.CharTestLemmas.{shows_all}
-use Rattle.fancy_regex_linear.proofs.RegularLemmas.{asking_view}
 use Rattle.fancy_regex_linear.proofs.RegularAnswerLemmas.{tried, first_span_by_ends}
-use Rattle.fancy_regex_linear.proofs.RegularStateLemmas.{first_is_final, does_by}
 use Rattle.fancy_regex_regular.specs.Regulars.{ends_from, rules_at}
 use Rattle.fancy_regex_regular.specs.Starts.{last_start}
 use Rattle.fancy_regex_regular.proofs.AskedLemmas.{is_asked, tried_all}
@@ -62,27 +57,27 @@ module _ (text : List ℕ) (input : RunInput) where
 
 -- What the states of a pattern do in a text: where the first start that has a way begins and ends is the match.
 pub record IsSearched (unicode : Bool) (states : List State) (entry : ℕ) (matchers : List CharClassMatcher) (pattern : Pattern)
-    (text : List ℕ) (input : RunInput) (place : Option ℕ) : Type 0 where
+    (is : AreRegularStates unicode states entry matchers pattern) (text : List ℕ) (input : RunInput) (place : Option ℕ) : Type 0 where
   pub view : View
   pub go : ℕ → Continuation
   pub does : DoWhat view (length text) (ends_from 0 input.range.end) states go
   pub shows : ShowsAll matchers (rules_at unicode input place) text (text_view view)
   pub first : view.longest ≡ false
   pub explains : Explains matchers (rules_at unicode input place) (ends_from 0 input.range.end) states text (text_view view) (ways_of go)
-  pub means : (regular : IsRegular pattern.tree) (p : ℕ) → p ≤ length text
-      → (go entry p).answer ≡ tried unicode text input pattern regular p
+  pub means : (p : ℕ) → p ≤ length text
+      → (go entry p).answer ≡ tried unicode text input pattern is.of_tree is.all_classes is.base is.called is.regular is.stand p
   pub first_is : earliest ((ways_of go).end entry) (boundaries text input.first (last_start input))
       ≡ option_map span_of_match (first_match (setting_for unicode text input) pattern (search_for false input))
 
 module _ (unicode : Bool) (states : List State) (entry : ℕ) (matchers : List CharClassMatcher) (pattern : Pattern)
     (is : AreRegularStates unicode states entry matchers pattern) (text : List ℕ) (input : RunInput) where
   pub is_searched : (place : Option ℕ) → IsPlaceFor place input states → IsUtf8 text → IsCharBoundary text input.first
-      → input.first ≤ input.range.end → input.range.end ≤ length text → IsSearched unicode states entry matchers pattern text input place
+      → input.first ≤ input.range.end → input.range.end ≤ length text → IsSearched unicode states entry matchers pattern is text input place
   is_searched place is_place u b below fits =
       let asked = is_asked unicode states entry matchers pattern is text input place 0 is_place u in
-      let means : (regular : IsRegular pattern.tree) (p : ℕ) → p ≤ length text
-      → (asked.go entry p).answer ≡ tried unicode text input pattern regular p =
-      λ regular p h. asked.means regular p h ∙ tried_all unicode text input pattern regular p h in
+      let means : (p : ℕ) → p ≤ length text
+      → (asked.go entry p).answer ≡ tried unicode text input pattern is.of_tree is.all_classes is.base is.called is.regular is.stand p =
+      λ p h. asked.means p h ∙ tried_all unicode text input pattern is.of_tree is.all_classes is.base is.called is.regular is.stand p h in
       record {
         view = asked.view;
         go = asked.go;
@@ -94,7 +89,7 @@ module _ (unicode : Bool) (states : List State) (entry : ℕ) (matchers : List C
         first_is =
             earliest_is ((ways_of asked.go).end entry) (boundaries text input.first (last_start input))
             ∙ ap (first_some (span_from ((ways_of asked.go).end entry))) (sym (starts_are text input unicode pattern b below))
-            ∙ sym (first_span_by_ends unicode text input pattern is.regular ((ways_of asked.go).end entry) (λ p h. ap (option_map (λ t. t.end)) (means is.regular p h)) fits);
+            ∙ sym (first_span_by_ends unicode text input pattern is.of_tree is.all_classes is.base is.called is.regular is.stand ((ways_of asked.go).end entry) (λ p h. ap (option_map (λ t. t.end)) (means p h)) fits);
       }
 
   -- a search that begins past its range has no starts

@@ -1,17 +1,16 @@
 -- Where no look-behind steps back over characters, no state does.
-use Rattle.std.proofs.Common.{◌≡◌, ◌∙◌, ℕ, zero, suc, ◌+◌, ◌-◌, ◌<◌, Bool, true, false, not, ◌&&◌, List, [], ◌∷◌, ◌++◌, length, get_or, Option, Some, None, if◌then◌else◌, refl, sym, ap, subst, arith}
+use Rattle.std.proofs.Common.{◌≡◌, ◌∙◌, ℕ, zero, suc, ◌+◌, ◌-◌, Bool, true, false, not, List, [], ◌∷◌, ◌++◌, length, Option, Some, None, get_or, if◌then◌else◌, refl, sym, ap, subst, arith}
 use Rattle.std.proofs.lemmas.Bool.{eqb-true}
 use Rattle.std.specs.Prelude.{slice_set, ◌==◌}
-use Rattle.fancy_regex_tree.specs.Tree.{Tree, Trees, empty, any, assertion, general_newline, literal, concat, alt, group, look_around, repeat, delegate, atomic_group, conditional, verb, continue, define_group, no_trees, more_trees}
+use Rattle.fancy_regex_tree.specs.Tree.{Tree, Trees, Text, empty, any, assertion, general_newline, literal, concat, alt, group, look_around, repeat, delegate, atomic_group, conditional, verb, continue, define_group, subroutine_call, no_trees, more_trees}
 use Rattle.fancy_regex_tree.specs.declared.expr.Assertion.{Assertion}
 use Rattle.fancy_regex_tree.specs.declared.expr.Assertion.TheVariants.{EndTextIgnoreTrailingNewlines}
 use Rattle.fancy_regex_tree.specs.declared.expr.LookAround.{LookAround}
 use Rattle.fancy_regex_tree.specs.declared.expr.LookAround.TheVariants as L
 use Rattle.fancy_regex_meaning.specs.Groups.{Pattern, group_count}
-use Rattle.fancy_regex_meaning.specs.Sizes.{size, may_be_empty}
-use Rattle.fancy_regex_states.specs.First.{state_at}
+use Rattle.fancy_regex_meaning.specs.Sizes.{target, size}
 use Rattle.fancy_regex_states.specs.declared.state.State.{State}
-use Rattle.fancy_regex_states.specs.declared.state.State.TheVariants.{Split, Enter, Leave, Ask, Atomic, Match}
+use Rattle.fancy_regex_states.specs.declared.state.State.TheVariants.{Split, Enter, Leave, Match}
 use Rattle.fancy_regex_states.specs.declared.state.State.TheVariants as S
 use Rattle.fancy_regex_parts.specs.Tables.{steps_back, AreStill}
 use Rattle.fancy_regex_linear.specs.Meaning.{is_unbounded}
@@ -19,7 +18,9 @@ use Rattle.fancy_regex_linear.specs.Re.{Re}
 use Rattle.fancy_regex_linear.specs.Re as re
 use Rattle.fancy_regex_linear.specs.Program.{loop_head, push, Emitter, BothEmitter, emitted_back, emitted_times, emitted_both_times, emitted_upto, emitted_both_upto, emitted_star, emitted_both_star, emitted_plus, emitted_both_plus, emitted_many, emitted_both_many, emitted_repeat, emitted_both_repeat, emitted_both_group, emitted_part, emitted_both_part, emitted_both_asking, emitted, emitted_both, emitted_choice}
 use Rattle.fancy_regex_linear.specs.Plain.{IsRegular, AreRegular, test_of, newline_re, served, joined, has_no_iteration, unless, classes, re_of, row_of, branches_of, around, each_around}
-use Rattle.fancy_regex_regular.specs.Weights.{steps_of, each_steps, stepping_weight, steps_in, each_steps_in}
+use Rattle.fancy_regex_linear.specs.Calls.{greatest_nesting, IsOfBody, IsCalled}
+use Rattle.fancy_regex_linear.proofs.ApartLemmas.{some_body}
+use Rattle.fancy_regex_regular.specs.Weights.{steps_of, each_steps, stepping_weight, steps_in, each_steps_in, call_steps, written_steps}
 use Rattle.fancy_regex_class.specs.declared.input.RunInput.{RunInput}
 use Rattle.fancy_regex_regular.specs.Regulars.{IsRegularOf, lowest_asked, lowest_seen}
 use Rattle.fancy_regex_regular.specs.declared.regular.Regular.{Regular}
@@ -263,9 +264,9 @@ newline_none : (wide : Bool) → NoSteps (newline_re wide)
 newline_none true = ((tt, (tt, tt)), ((tt, (tt, tt)), (tt, (tt, (tt, (tt, (tt, tt)))))))
 newline_none false = ((tt, (tt, tt)), ((tt, (tt, tt)), (tt, (tt, tt))))
 
-unless_none : (b : Bool) (x : Re) → NoSteps x → NoSteps (unless b x)
+unless_none : (b : Bool) (x : Re) → (b ≡ false → NoSteps x) → NoSteps (unless b x)
 unless_none true x h = tt
-unless_none false x h = h
+unless_none false x h = h refl
 
 joined_none : (always negated : Bool) (xs : List Re) (back each : ℕ) (body : Re) → (if always then back else each) ≡ 0 → NoSteps body
     → (each ≡ 0 → NoSteps (re.cats xs)) → (each ≡ 0 → NoSteps (re.alts xs)) → NoSteps (if not always then joined negated xs else re.ask negated back body)
@@ -273,11 +274,12 @@ joined_none true negated xs back each body none h all one = (none, h)
 joined_none false true xs back each body none h all one = all none
 joined_none false false xs back each body none h all one = one none
 
-module _ (unicode : Bool) (groups : List Tree) where
+module _ (unicode : Bool) (groups : List Tree) (called : ℕ → Re) (call : ℕ → ℕ) (known : ℕ → Type 0)
+    (call_still : (j : ℕ) → known j → call j ≡ 0 → NoSteps (called j)) where
   mutual
     unfolding re_of around each_around steps_of each_steps steps_in each_steps_in
 
-    pub still_tree : (n k : ℕ) (t : Tree) → IsRegular t → steps_in groups t ≡ 0 → NoSteps (re_of unicode groups n k t)
+    pub still_tree : (n k : ℕ) (t : Tree) → IsRegular known t → steps_in groups call t ≡ 0 → NoSteps (re_of unicode groups called n k t)
     still_tree n k empty p none = tt
     still_tree n k (any newline crlf) p none = tt
     still_tree n k (literal val casei) p none = tt
@@ -290,7 +292,7 @@ module _ (unicode : Bool) (groups : List Tree) where
     still_tree n k (look_around t how) p none =
         still_around n k how t p (still_tree n k t p (omega (arith, none))) (omega (arith, none)) (omega (arith, none))
     still_tree n k (atomic_group t) p none = still_tree n k t p none
-    still_tree n k (repeat t lo hi greedy) p none = unless_none (has_no_iteration lo hi) _ (still_tree n k t p none)
+    still_tree n k (repeat t lo hi greedy) p none = unless_none (has_no_iteration lo hi) _ (λ made. still_tree n k t (p made) none)
     still_tree n k (conditional c a b) p none = (
       still_tree n k c p.0 (omega (arith, none)),
       (
@@ -299,32 +301,33 @@ module _ (unicode : Bool) (groups : List Tree) where
       ),
     )
     still_tree n k (define_group t) p none = tt
+    still_tree n k (subroutine_call j) p none = call_still j p none
     still_tree n k (verb v) p none = tt
     still_tree n k continue p none = tt
     still_tree n k _ p none = absurd p
 
-    still_row : (n k : ℕ) (ts : Trees) → AreRegular ts → each_steps_in groups ts ≡ 0 → NoSteps (row_of unicode groups n k ts)
+    still_row : (n k : ℕ) (ts : Trees) → AreRegular known ts → each_steps_in groups call ts ≡ 0 → NoSteps (row_of unicode groups called n k ts)
     still_row n k no_trees p none = tt
     still_row n k (more_trees t ts) p none =
         (still_tree n k t p.0 (omega (arith, none)), still_row (n + group_count t) (k + length (classes t)) ts p.1 (omega (arith, none)))
 
-    still_branches : (n k : ℕ) (ts : Trees) → AreRegular ts → each_steps_in groups ts ≡ 0 → NoSteps (branches_of unicode groups n k ts)
+    still_branches : (n k : ℕ) (ts : Trees) → AreRegular known ts → each_steps_in groups call ts ≡ 0 → NoSteps (branches_of unicode groups called n k ts)
     still_branches n k no_trees p none = tt
     still_branches n k (more_trees t no_trees) p none = still_tree n k t p.0 (omega (arith, none))
     still_branches n k (more_trees t (more_trees u us)) p none =
         (still_tree n k t p.0 (omega (arith, none)), still_branches (n + group_count t) (k + length (classes t)) (more_trees u us) p.1 (omega (arith, none)))
 
-    still_around : (n k : ℕ) (how : LookAround) (t : Tree) → IsRegular t → NoSteps (re_of unicode groups n k t) → steps_in groups t ≡ 0
-        → stepping_weight groups how t ≡ 0 → NoSteps (around unicode groups n k how (re_of unicode groups n k t) t)
+    still_around : (n k : ℕ) (how : LookAround) (t : Tree) → IsRegular known t → NoSteps (re_of unicode groups called n k t) → steps_in groups call t ≡ 0
+        → stepping_weight groups how t ≡ 0 → NoSteps (around unicode groups called n k how (re_of unicode groups called n k t) t)
     still_around n k L.LookAhead (alt ts) p body inside none = (refl, body)
     still_around n k L.LookAheadNeg (alt ts) p body inside none = (refl, body)
     still_around n k L.LookBehind (alt ts) p body inside none =
-        joined_none (size groups (alt ts)).always false (each_around unicode groups n k L.LookBehind ts) (size groups (alt ts)).least (each_steps groups ts)
-        (re_of unicode groups n k (alt ts)) none body
+        joined_none (size groups (alt ts)).always false (each_around unicode groups called n k L.LookBehind ts) (size groups (alt ts)).least (each_steps groups ts)
+        (re_of unicode groups called n k (alt ts)) none body
         (λ each. each_still_all n k L.LookBehind (λ t. refl) ts p.1 inside each) (λ each. each_still_one n k L.LookBehind (λ t. refl) ts p.1 inside each)
     still_around n k L.LookBehindNeg (alt ts) p body inside none =
-        joined_none (size groups (alt ts)).always true (each_around unicode groups n k L.LookBehindNeg ts) (size groups (alt ts)).least (each_steps groups ts)
-        (re_of unicode groups n k (alt ts)) none body
+        joined_none (size groups (alt ts)).always true (each_around unicode groups called n k L.LookBehindNeg ts) (size groups (alt ts)).least (each_steps groups ts)
+        (re_of unicode groups called n k (alt ts)) none body
         (λ each. each_still_all n k L.LookBehindNeg (λ t. refl) ts p.1 inside each) (λ each. each_still_one n k L.LookBehindNeg (λ t. refl) ts p.1 inside each)
     still_around n k L.LookAhead empty p body inside none = (refl, body)
     still_around n k L.LookAheadNeg empty p body inside none = (refl, body)
@@ -361,6 +364,10 @@ module _ (unicode : Bool) (groups : List Tree) where
     still_around n k L.LookAheadNeg (conditional c a b) p body inside none = (refl, body)
     still_around n k L.LookBehind (conditional c a b) p body inside none = (none, body)
     still_around n k L.LookBehindNeg (conditional c a b) p body inside none = (none, body)
+    still_around n k L.LookAhead (subroutine_call j) p body inside none = (refl, body)
+    still_around n k L.LookAheadNeg (subroutine_call j) p body inside none = (refl, body)
+    still_around n k L.LookBehind (subroutine_call j) p body inside none = (none, body)
+    still_around n k L.LookBehindNeg (subroutine_call j) p body inside none = (none, body)
     still_around n k L.LookAhead (define_group t) p body inside none = (refl, body)
     still_around n k L.LookAheadNeg (define_group t) p body inside none = (refl, body)
     still_around n k L.LookBehind (define_group t) p body inside none = (none, body)
@@ -379,16 +386,16 @@ module _ (unicode : Bool) (groups : List Tree) where
     still_around n k L.LookBehindNeg (repeat t lo hi greedy) p body inside none = (none, body)
     still_around n k how _ p body inside none = absurd p
 
-    each_still_all : (n k : ℕ) (how : LookAround) → ((t : Tree) → stepping_weight groups how t ≡ steps_of groups t) → (ts : Trees) → AreRegular ts
-        → each_steps_in groups ts ≡ 0 → each_steps groups ts ≡ 0 → NoSteps (re.cats (each_around unicode groups n k how ts))
+    each_still_all : (n k : ℕ) (how : LookAround) → ((t : Tree) → stepping_weight groups how t ≡ steps_of groups t) → (ts : Trees) → AreRegular known ts
+        → each_steps_in groups call ts ≡ 0 → each_steps groups ts ≡ 0 → NoSteps (re.cats (each_around unicode groups called n k how ts))
     each_still_all n k how is no_trees p inside none = tt
     each_still_all n k how is (more_trees t ts) p inside none = (
       still_around n k how t p.0 (still_tree n k t p.0 (omega (arith, inside))) (omega (arith, inside)) (omega (arith, none, is t)),
       each_still_all (n + group_count t) (k + length (classes t)) how is ts p.1 (omega (arith, inside)) (omega (arith, none)),
     )
 
-    each_still_one : (n k : ℕ) (how : LookAround) → ((t : Tree) → stepping_weight groups how t ≡ steps_of groups t) → (ts : Trees) → AreRegular ts
-        → each_steps_in groups ts ≡ 0 → each_steps groups ts ≡ 0 → NoSteps (re.alts (each_around unicode groups n k how ts))
+    each_still_one : (n k : ℕ) (how : LookAround) → ((t : Tree) → stepping_weight groups how t ≡ steps_of groups t) → (ts : Trees) → AreRegular known ts
+        → each_steps_in groups call ts ≡ 0 → each_steps groups ts ≡ 0 → NoSteps (re.alts (each_around unicode groups called n k how ts))
     each_still_one n k how is no_trees p inside none = tt
     each_still_one n k how is (more_trees t no_trees) p inside none =
         still_around n k how t p.0 (still_tree n k t p.0 (omega (arith, inside))) (omega (arith, inside)) (omega (arith, none, is t))
@@ -397,12 +404,39 @@ module _ (unicode : Bool) (groups : List Tree) where
       each_still_one (n + group_count t) (k + length (classes t)) how is (more_trees u us) p.1 (omega (arith, inside)) (omega (arith, none)),
     )
 
+-- nor do the look-behinds in calls that are written out
+module _ (unicode : Bool) (groups : List Tree) (cs : List (Text × Bool)) where
+  body_steps : (depth j : ℕ) (body : Tree) → target groups j ≡ Some body
+      → call_steps groups (suc depth) j ≡ steps_in groups (call_steps groups depth) body
+  unfolding call_steps
+  body_steps depth j body is =
+      ap (λ (o : Option Tree). elim o [ None ↦ 0 | Some inner ↦ steps_in groups (call_steps groups depth) inner ]) is
+
+  call_still : (depth j : ℕ) (x : Re) → IsCalled groups unicode cs depth j x → call_steps groups depth j ≡ 0 → NoSteps x
+  unfolding IsCalled
+  call_still zero j x is none = absurd is
+  call_still (suc depth) j x is none =
+      let found = some_body (IsOfBody groups unicode cs (IsCalled groups unicode cs depth) j x) (target groups j) is in
+      let called = found.2.0 in
+      subst NoSteps (sym found.2.3)
+      (still_tree unicode groups called (call_steps groups depth) (λ i. IsCalled groups unicode cs depth i (called i))
+      (λ i known still. call_still depth i (called i) known still) (j + 1) found.2.1 found.0 found.2.2
+      (sym (body_steps depth j found.0 found.1) ∙ none))
+
+  whole_still : (depth : ℕ) (called : ℕ → Re) (n k : ℕ) (t : Tree) → IsRegular (λ j. IsCalled groups unicode cs depth j (called j)) t
+      → steps_in groups (call_steps groups depth) t ≡ 0 → NoSteps (re_of unicode groups called n k t)
+  whole_still depth called n k t p none =
+      still_tree unicode groups called (call_steps groups depth) (λ j. IsCalled groups unicode cs depth j (called j))
+      (λ j is still. call_still depth j (called j) is still) n k t p none
+
 -- where no look-behind steps back, a search asks about nothing before its first start
 module _ (regular : Regular) (input : RunInput) (pattern : Pattern) (is : IsRegularOf regular pattern) where
-  still_asked : steps_in pattern.groups pattern.tree ≡ 0 → lowest_asked regular input ≡ input.first
+  still_asked : written_steps pattern.groups pattern.tree ≡ 0 → lowest_asked regular input ≡ input.first
   still_asked none =
-      let tree = still_tree regular.unicode pattern.groups pattern.first_group 0 pattern.tree is.states.regular none in
-      let still = emitted_still (re_of regular.unicode pattern.groups pattern.first_group 0 pattern.tree) tree regular.table.states.items regular.entry
+      let tree =
+      whole_still regular.unicode pattern.groups is.states.all_classes (greatest_nesting (length pattern.groups)) is.states.called pattern.first_group is.states.base
+      pattern.tree is.states.regular none in
+      let still = emitted_still (re_of regular.unicode pattern.groups is.states.called pattern.first_group is.states.base pattern.tree) tree regular.table.states.items regular.entry
       is.states.program in
       omega (arith, regular.right.still still regular.entry)
 
@@ -413,4 +447,4 @@ module _ (regular : Regular) (input : RunInput) (pattern : Pattern) (is : IsRegu
 
   pub seen_is_asked : lowest_seen regular input pattern ≡ lowest_asked regular input
   seen_is_asked =
-      by_steps (steps_in pattern.groups pattern.tree == 0) (λ none. still_asked (eqb-true (steps_in pattern.groups pattern.tree) 0 none))
+      by_steps (written_steps pattern.groups pattern.tree == 0) (λ none. still_asked (eqb-true (written_steps pattern.groups pattern.tree) 0 none))

@@ -13,7 +13,7 @@ use Rattle.fancy_regex_linear.specs.Easy.{rules_for}
 use Rattle.fancy_regex_linear.specs.EasyPatterns.{span_of_match}
 use Rattle.fancy_regex_linear.specs.RegularStates.{AreRegularStates}
 use Rattle.fancy_regex_regular.specs.Starts.{last_start}
-use Rattle.fancy_regex_regular.specs.Weights.{steps_in, tree_state_weight}
+use Rattle.fancy_regex_regular.specs.Weights.{written_steps, tree_state_weight}
 use Rattle.fancy_regex_regular.specs.declared.regular.Regular.{Regular}
 
 -- it has the states and matchers of the pattern, and slots for its groups
@@ -78,7 +78,7 @@ lowest_asked regular input = lowest_of regular.table regular.entry input.first
 
 -- the same of a pattern: where no look-behind in it steps back over characters, but for tests of one character, it is the first start
 abbrev pub lowest_seen : Regular → RunInput → Pattern → ℕ
-lowest_seen regular input pattern = if steps_in pattern.groups pattern.tree == 0 then input.first else lowest_asked regular input
+lowest_seen regular input pattern = if written_steps pattern.groups pattern.tree == 0 then input.first else lowest_asked regular input
 
 -- the looks of a search for a span, from that byte offset on
 abbrev pub LooksAtMost : Regular → List ℕ → RunInput → ℕ → ℕ → Type 0

@@ -1,10 +1,16 @@
 -- Which patterns are searched by states with parts.
-use Rattle.std.specs.Prelude.{◌≤◌}
+use Rattle.std.specs.Prelude.{◌≡◌, ◌≤◌, ◌⊎◌}
 use Rattle.fancy_regex_meaning.specs.Groups.{Pattern}
-use Rattle.fancy_regex_meaning.specs.Sizes.{weight}
+use Rattle.fancy_regex_info.specs.declared.error.CompileError.{CompileError}
+use Rattle.fancy_regex_info.specs.declared.error.CompileError.TheVariants.{Memory}
 use Rattle.fancy_regex_linear.specs.Plain.{IsRegular}
+use Rattle.fancy_regex_linear.specs.Calls.{IsWrittenOut, written_weight}
 
--- Exactly these patterns are searched by states with parts: those whose tree is regular and weighs at most so much.
+-- Exactly these patterns are searched by states with parts: those whose tree, with its calls written out, is regular and weighs at most so much.
 pub record IsSupported (pattern : Pattern) : Type 0 where
-  pub regular : IsRegular pattern.tree
-  pub light : weight pattern.groups pattern.tree ≤ 4000
+  pub regular : IsWrittenOut pattern.groups pattern.tree
+  pub light : written_weight pattern.groups pattern.tree ≤ 4000
+
+-- An error comes only where the pattern is supported; or it is want of memory, and the tree has calls, so that this is not known yet.
+abbrev pub IsSupportedOrShort : Pattern → CompileError → Type 0
+IsSupportedOrShort pattern error = IsSupported pattern ⊎ ((error ≡ Memory) × (IsRegular (λ j. ⊥) pattern.tree → ⊥))

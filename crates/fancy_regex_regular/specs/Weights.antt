@@ -1,12 +1,13 @@
 -- How heavy a pattern is as states: its weight, but that `\R`, `\Z` and a conditional become several states, and a look-behind has one
 -- more for each character that it steps back over.
-use Rattle.std.specs.Prelude.{ℕ, ◌+◌, ◌*◌, max, Bool, true, false, if◌then◌else◌, List}
-use Rattle.fancy_regex_tree.specs.Tree.{Tree, Trees, any, assertion, general_newline, literal, delegate, concat, alt, group, look_around, repeat, atomic_group, conditional, no_trees, more_trees}
+use Rattle.std.specs.Prelude.{ℕ, zero, suc, length, Some, None, ◌+◌, ◌*◌, max, Bool, true, false, if◌then◌else◌, List}
+use Rattle.fancy_regex_tree.specs.Tree.{Tree, Trees, any, assertion, general_newline, literal, delegate, concat, alt, group, look_around, repeat, atomic_group, conditional, subroutine_call, no_trees, more_trees}
 use Rattle.fancy_regex_tree.specs.declared.expr.Assertion.{Assertion}
 use Rattle.fancy_regex_tree.specs.declared.expr.Assertion.TheVariants.{EndTextIgnoreTrailingNewlines}
 use Rattle.fancy_regex_tree.specs.declared.expr.LookAround.{LookAround}
 use Rattle.fancy_regex_tree.specs.declared.expr.LookAround.TheVariants as L
-use Rattle.fancy_regex_meaning.specs.Sizes.{size, bound_of, may_be_empty, repeat_weight, branch_gaps}
+use Rattle.fancy_regex_meaning.specs.Sizes.{target, size, bound_of, may_be_empty, repeat_weight, branch_gaps}
+use Rattle.fancy_regex_linear.specs.Calls.{greatest_nesting}
 
 -- `\Z` weighs 7, each other assertion 1
 abbrev pub assertion_weight : Assertion → ℕ
@@ -37,40 +38,56 @@ module _ (groups : List Tree) where
   stepping_weight L.LookBehind t = steps_of t
   stepping_weight L.LookBehindNeg t = steps_of t
 
-  -- over how many characters the look-behinds in a tree step back, all of them together
+  -- over how many characters the look-behinds in a tree step back, all of them together, where that of calls is given
   unfoldable mutual
-    pub steps_in : Tree → ℕ
-    steps_in (concat ts) = each_steps_in ts
-    steps_in (alt ts) = each_steps_in ts
-    steps_in (group t) = steps_in t
-    steps_in (look_around t how) = steps_in t + stepping_weight how t
-    steps_in (atomic_group t) = steps_in t
-    steps_in (conditional c a b) = steps_in c + (steps_in a + steps_in b)
-    steps_in (repeat t lo hi greedy) = steps_in t
-    steps_in _ = 0
+    pub steps_in : (ℕ → ℕ) → Tree → ℕ
+    steps_in call (concat ts) = each_steps_in call ts
+    steps_in call (alt ts) = each_steps_in call ts
+    steps_in call (group t) = steps_in call t
+    steps_in call (look_around t how) = steps_in call t + stepping_weight how t
+    steps_in call (atomic_group t) = steps_in call t
+    steps_in call (conditional c a b) = steps_in call c + (steps_in call a + steps_in call b)
+    steps_in call (repeat t lo hi greedy) = steps_in call t
+    steps_in call (subroutine_call j) = call j
+    steps_in call _ = 0
 
-    pub each_steps_in : Trees → ℕ
-    each_steps_in no_trees = 0
-    each_steps_in (more_trees t ts) = steps_in t + each_steps_in ts
+    pub each_steps_in : (ℕ → ℕ) → Trees → ℕ
+    each_steps_in call no_trees = 0
+    each_steps_in call (more_trees t ts) = steps_in call t + each_steps_in call ts
 
-  -- the weight of a node, where `\R` weighs 16, and a conditional 2 by itself
+  -- those of a call, which are those of the body of its group, where calls nest at most so deep
+  unfoldable pub call_steps : ℕ → ℕ → ℕ
+  call_steps zero j = 0
+  call_steps (suc depth) j = elim (target groups j) [ None ↦ 0 | Some body ↦ steps_in (call_steps depth) body ]
+
+  -- those of a tree with its calls written out
+  abbrev pub written_steps : Tree → ℕ
+  written_steps = steps_in (call_steps (greatest_nesting (length groups)))
+
+  -- the weight of a node, where `\R` weighs 16, and a conditional 2 by itself, and where the weight of calls is given
   unfoldable mutual
-    pub state_weight : Tree → ℕ
-    state_weight (general_newline wide) = 16
-    state_weight (assertion a) = assertion_weight a
-    state_weight (concat ts) = max 1 (state_weights ts)
-    state_weight (alt ts) = state_weights ts + 3 * branch_gaps groups ts
-    state_weight (group t) = state_weight t + 2
-    state_weight (repeat t lo hi greedy) = repeat_weight groups lo (bound_of hi) (state_weight t) (may_be_empty groups t)
-    state_weight (look_around t how) = 1 + state_weight t + stepping_weight how t
-    state_weight (atomic_group t) = 1 + state_weight t
-    state_weight (conditional c a b) = 2 + (state_weight c + (state_weight a + state_weight b))
-    state_weight _ = 1
+    pub state_weight : (ℕ → ℕ) → Tree → ℕ
+    state_weight call (general_newline wide) = 16
+    state_weight call (assertion a) = assertion_weight a
+    state_weight call (concat ts) = max 1 (state_weights call ts)
+    state_weight call (alt ts) = state_weights call ts + 3 * branch_gaps groups ts
+    state_weight call (group t) = state_weight call t + 2
+    state_weight call (repeat t lo hi greedy) = repeat_weight groups lo (bound_of hi) (state_weight call t) (may_be_empty groups t)
+    state_weight call (look_around t how) = 1 + state_weight call t + stepping_weight how t
+    state_weight call (atomic_group t) = 1 + state_weight call t
+    state_weight call (conditional c a b) = 2 + (state_weight call c + (state_weight call a + state_weight call b))
+    state_weight call (subroutine_call j) = call j
+    state_weight call _ = 1
 
-    pub state_weights : Trees → ℕ
-    state_weights no_trees = 0
-    state_weights (more_trees t ts) = state_weight t + state_weights ts
+    pub state_weights : (ℕ → ℕ) → Trees → ℕ
+    state_weights call no_trees = 0
+    state_weights call (more_trees t ts) = state_weight call t + state_weights call ts
 
-  -- the weight of a whole tree
+  -- that of a call, which is that of the body of its group, where calls nest at most so deep
+  unfoldable pub call_state_weight : ℕ → ℕ → ℕ
+  call_state_weight zero j = 1
+  call_state_weight (suc depth) j = elim (target groups j) [ None ↦ 1 | Some body ↦ state_weight (call_state_weight depth) body ]
+
+  -- the weight of a whole tree, each call counted as the body of its group
   abbrev pub tree_state_weight : Tree → ℕ
-  tree_state_weight t = state_weight t + 2
+  tree_state_weight t = state_weight (call_state_weight (greatest_nesting (length groups))) t + 2

@@ -59,9 +59,9 @@ impl Drop for Regular {
 }
 
 impl Regular {
-    ghost use Rattle.fancy_regex_linear.specs.Plain.{classes};
-    ghost use Rattle.fancy_regex_linear.specs.Refusals.{IsClassCause};
-    ghost use Rattle.fancy_regex_regular.specs.Supported.{IsSupported};
+    ghost use Rattle.fancy_regex_linear.specs.Plain.{IsRegular};
+    ghost use Rattle.fancy_regex_linear.specs.CalledClasses.{IsWrittenCause};
+    ghost use Rattle.fancy_regex_regular.specs.Supported.{IsSupported, IsSupportedOrShort};
     ghost use Rattle.fancy_regex_regular.specs.Regulars.{IsRegularOf, IsContextOf, IsSpan, IsSpanOf, IsSlots, IsSlotsOf, LooksFrom, LooksForGroupsFrom, LooksAtMost, continue_place, lowest_asked, starts_without};
     ghost use Rattle.fancy_regex_regular.specs.Kept.{IsKeptOf, IsReady};
     ghost use Rattle.fancy_regex_regular.specs.Inputs.{MemoryServes};
@@ -71,17 +71,20 @@ impl Regular {
     ghost use Rattle.fancy_regex_info.specs.declared.info.Info.{out-Info};
     ghost use Rattle.fancy_regex_info.specs.Views.{pattern_in};
 
-    /// Whether an analyzed pattern becomes states with parts. Its weight is at most 4,000 then, and it has no more than characters, `\R`,
-    /// `\G`, `(*FAIL)`, assertions, definitions, and look-arounds, groups, atomic groups, conditionals, alternations and repeats of these.
-    pub fn supports(info: &Info<'_>) -> bool
-        ensures exact { (explicit : Bool) (t : Tree) → info_of info.now ≡ analysis explicit t
-            → (result ≡ true ↔ IsSupported (pattern_in explicit t)) }
+    /// Whether an analyzed pattern becomes states with parts. Its weight is at most 4,000 then, each call counted as the body of its group,
+    /// and it has no more than characters, `\R`, `\G`, `(*FAIL)`, assertions, definitions, look-arounds, groups, atomic groups, conditionals,
+    /// alternations and repeats of these, and calls of groups of these that do not recur. The error is want of memory, only where the tree
+    /// has calls.
+    pub fn supports(alloc: Global, info: &Info<'_>) -> Result<bool, AllocError>
+        ensures exact { IfOk result (λ is. (explicit : Bool) (t : Tree) → info_of info.now ≡ analysis explicit t
+            → (is ≡ true ↔ IsSupported (pattern_in explicit t))) }
+        ensures calls { IfErr result (λ _. IsRegular (λ j. ⊥) (tree_of (out-Info info.now).expr.now) → ⊥) }
     {
-        RegularStates::are_made_for(info)
+        RegularStates::are_made_for(alloc, info)
     }
 
     /// Compiles an analyzed pattern; `None` exactly where it becomes no such states (`supports`), if there is no error. The error is
-    /// `InnerError` with the text of a class that `regex` refuses, or `Memory`.
+    /// `InnerError` with the text of a class that `regex` refuses, of the tree or of the body of a group that is called in it, or `Memory`.
     pub fn if_supported(
         alloc: Global,
         info: &Info<'_>,
@@ -93,11 +96,13 @@ impl Regular {
             × (regular.longest ≡ options.now.leftmost_longest))) }
         ensures exact { IfOk result (λ found. (explicit : Bool) (t : Tree) → info_of info.now ≡ analysis explicit t
             → (IsSome found ↔ IsSupported (pattern_in explicit t))) }
-        ensures refused { IfErr result (IsClassCause options.now.unicode (classes (tree_of (out-Info info.now).expr.now))) }
-        ensures only { IfErr result (λ _. (explicit : Bool) (t : Tree) → info_of info.now ≡ analysis explicit t
-            → IsSupported (pattern_in explicit t)) }
+        ensures refused { IfErr result (λ error. (explicit : Bool) (t : Tree) → info_of info.now ≡ analysis explicit t
+            → IsWrittenCause options.now.unicode (pattern_in explicit t) error) }
+        ensures only { IfErr result (λ error. (explicit : Bool) (t : Tree) → info_of info.now ≡ analysis explicit t
+            → IsSupportedOrShort (pattern_in explicit t) error) }
     {
-        if !Regular::supports(info) {
+        let supported = Regular::supports(alloc, info)?;
+        if !supported {
             return Ok(None);
         }
         let found = RegularStates::new(alloc, info, options)?;

@@ -88,10 +88,11 @@ impl Regex {
     /// Whether no search of this regex meets a limit: if so, `Memory` is the only error of its searches.
     ///
     /// It is so where the option `find_not_empty` is off, in two cases. The pattern is plain: it has no more than characters, classes,
-    /// assertions but `\Z`, groups, alternations and repeats of these. Or the pattern's weight (about its length, with counted repeats
-    /// written out) is at most 4,000, and it has besides no more than look-arounds, atomic groups, conditionals whose condition is such a
-    /// pattern, definitions, `\R`, `\Z`, `\G`, half boundaries, starts of lines of Oniguruma mode and `(*FAIL)`. So a pattern with a
-    /// reference, a call, a condition on a group or `\K` outside of a definition is not linear. The answer depends on the pattern and its
+    /// assertions but `\Z`, groups, alternations and repeats of these. Or the pattern's weight (about its length, with counted repeats and
+    /// calls written out) is at most 4,000, and it has besides no more than look-arounds, atomic groups, conditionals whose condition is
+    /// such a pattern, definitions, calls that do not recur and nest at most 18 deep, `\R`, `\Z`, `\G`, half boundaries, starts of lines
+    /// of Oniguruma mode and `(*FAIL)`. So a pattern with a reference, a call that recurs, a condition on a group or `\K` is not linear,
+    /// unless these stand in a definition and are not called, or in what is repeated no times. The answer depends on the pattern and its
     /// options alone, and on no text. It is the same for the first match and for the longest.
     ///
     /// ```

@@ -5,7 +5,7 @@ use std::alloc::Global;
 use std::test::Fail;
 
 /// Patterns, and whether their regexes are linear.
-static PATTERNS: [(&str, bool); 36] = [
+static PATTERNS: [(&str, bool); 46] = [
     ("a+b", true),
     (r"\bfoo\b", true),
     ("(a)(b|c)*", true),
@@ -38,10 +38,23 @@ static PATTERNS: [(&str, bool); 36] = [
     (r"\Ga", true),
     (r"(?>\G|,)\w(?<!\Ga)", true),
     (r"\G(a)\1", false),
-    (r"(a)\g<1>", false),
+    (r"(a)\g<1>", true),
+    (r"(a|(b))\g<1>\g<2>", true),
+    (r"(a\g<1>?b)", false),
+    (r"(x\g<2>?)(y\g<1>?)", false),
+    (r"(a)\1\g<1>", false),
+    (r"(?(DEFINE)((a)\2))\g<1>", false),
+    (r"(?(DEFINE)(a{3000}))\g<1>", true),
+    (r"(?(DEFINE)(a{3000}))\g<1>\g<1>", false),
+    (r"(?(DEFINE)(a{3000}))(?:\g<1>){2}", false),
+    (r"(?:(a)\1){0}b", true),
+    (
+        r"(?(DEFINE)(?<octet>25[0-5]|2[0-4]\d|1?\d?\d))\b\g<octet>(?:\.\g<octet>){3}\b(?!\.)",
+        true,
+    ),
     ("(a)?(?(1)b|c)", false),
     (r"(a)(?(b)c|\1)", false),
-    (r"(?(DEFINE)(a))\g<1>", false),
+    (r"(?(DEFINE)(a))\g<1>", true),
 ];
 
 /// Whether the regex of a pattern is linear, with these options.
@@ -74,6 +87,32 @@ fn the_same_patterns_are_linear_for_the_longest_match(rt: HostRuntime) -> Result
     for (pattern, is_due) in PATTERNS.iter() {
         let is_told = is_linear(rt.alloc(), pattern, false, true)?;
         assert!(rt; is_told == *is_due, "{pattern}");
+    }
+    Ok(())
+}
+
+/// A pattern of so many groups, each of which calls the one before three times.
+fn multiplied(alloc: Global, groups: usize) -> Result<String, Fail> {
+    let mut pattern = String::from_str(alloc, r"(?(DEFINE)(\b)")?;
+    for group in 1..groups {
+        pattern.push_str(&format!(in alloc; r"(\g<{group}>\g<{group}>\g<{group}>)")?)?;
+    }
+    pattern.push_str(&format!(in alloc; r")\g<{groups}>")?)?;
+    Ok(pattern)
+}
+
+#[test]
+fn what_calls_multiply_is_weighed_and_not_written_out(rt: HostRuntime) -> Result<(), Fail> {
+    for (groups, is_due) in [
+        (3usize, true),
+        (7, true),
+        (8, false),
+        (18, false),
+        (30, false),
+    ] {
+        let pattern = multiplied(rt.alloc(), groups)?;
+        let is_told = is_linear(rt.alloc(), &pattern, false, false)?;
+        assert!(rt; is_told == is_due, "{groups}");
     }
     Ok(())
 }

@@ -1,9 +1,10 @@
-use Rattle.std.proofs.Common.{sym, subst, refl, true≢false}
-use Rattle.fancy_regex_tree.specs.Tree.{tree_of}
-use Rattle.fancy_regex_info.specs.declared.info.Info.{out-Info}
+use Rattle.std.proofs.Common.{◌≡◌, false, sym, subst, refl, true≢false}
+use Rattle.fancy_regex_tree.specs.Tree.{Tree}
+use Rattle.fancy_regex_meaning.specs.Groups.{pattern_of}
+use Rattle.fancy_regex_info.specs.Analysis.{analysis}
+use Rattle.fancy_regex_info.specs.Infos.{info_of}
 use Rattle.fancy_regex_analysis.proofs.PartErrorLemmas.{gives}
-use Rattle.fancy_regex_linear.specs.Plain.{classes}
-use Rattle.fancy_regex_linear.specs.Refusals.{IsClassCause}
+use Rattle.fancy_regex_linear.specs.CalledClasses.{IsWrittenCause}
 use Rattle.fancy_regex_meta.proofs.StrategyLemmas.{program_unlimited}
 use Rattle.fancy_regex_meta.proofs.strategy.hard_strategy.Goals as goal
 
@@ -31,12 +32,14 @@ returns-in-None-clause-linear c t is = (
 -- want of memory, and what the states are refused for
 pub returns-in_err-matcher-clause-refused : goal.returns-in_err-matcher-clause-refused
 returns-in_err-matcher-clause-refused c =
-    let cs = classes (tree_of (out-Info c.args.info.now).expr.now) in
-    gives c.from_residual.result c.in_err-matcher.field-0.0 (IsClassCause c.args.options.now.unicode_mode cs) c.from_residual.ensures.1
-    (subst (IsClassCause c.args.options.now.unicode_mode cs) (sym c.in_err-matcher.ensures.memory) tt)
+    let o = c.args.options.now in
+    gives c.from_residual.result c.in_err-matcher.field-0.0
+    (λ cause. (t : Tree) → info_of c.args.info.now ≡ analysis false t → IsWrittenCause o.unicode_mode (pattern_of t) cause) c.from_residual.ensures.1
+    (λ t is. subst (IsWrittenCause o.unicode_mode (pattern_of t)) (sym c.in_err-matcher.ensures.memory) tt)
 
 pub returns-in_err-states-clause-refused : goal.returns-in_err-states-clause-refused
 returns-in_err-states-clause-refused c =
-    let cs = classes (tree_of (out-Info c.args.info.now).expr.now) in
-    gives c.from_residual-in_err-states.result c.in_err-states.field-0.0 (IsClassCause c.args.options.now.unicode_mode cs)
+    let o = c.args.options.now in
+    gives c.from_residual-in_err-states.result c.in_err-states.field-0.0
+    (λ cause. (t : Tree) → info_of c.args.info.now ≡ analysis false t → IsWrittenCause o.unicode_mode (pattern_of t) cause)
     c.from_residual-in_err-states.ensures.1 c.in_err-states.ensures.refused

@@ -17,4 +17,4 @@ returns-in-Ok-clause-states c =
     known_if_some ((t : Tree) → info_of c.args.info.now ≡ analysis false t → HasStates c.args.options.now t) c.in-Ok.found
     (λ t is. has_states c.args.options.now c.args.info.now c.compile_options-wanted.result.unicode c.compile_options-wanted.result.leftmost_longest
     c.compile_options-wanted.ensures.unicode c.compile_options-wanted.ensures.longest c.if-options.false t
-    ((c.supports.ensures.exact false t is).0 c.if-not-supports.false))
+    ((c.in_ok-supported.ensures.exact false t is).0 c.if-not-supported.false))

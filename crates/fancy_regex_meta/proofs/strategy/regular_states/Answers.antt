@@ -1,9 +1,11 @@
-use Rattle.std.proofs.Common.{Bool, sym, subst, true≢false, ◌∙◌}
+use Rattle.std.proofs.Common.{◌≡◌, Bool, false, sym, subst, true≢false, ◌∙◌}
 use Rattle.std.specs.Prelude.{IfErr}
-use Rattle.fancy_regex_tree.specs.Tree.{tree_of}
-use Rattle.fancy_regex_info.specs.declared.info.Info.{out-Info}
-use Rattle.fancy_regex_linear.specs.Plain.{classes}
-use Rattle.fancy_regex_linear.specs.Refusals.{IsClassCause}
+use Rattle.std.proofs.lemmas.Result.{IfErr-weaker}
+use Rattle.fancy_regex_tree.specs.Tree.{Tree}
+use Rattle.fancy_regex_meaning.specs.Groups.{pattern_of}
+use Rattle.fancy_regex_info.specs.Analysis.{analysis}
+use Rattle.fancy_regex_info.specs.Infos.{info_of}
+use Rattle.fancy_regex_linear.specs.CalledClasses.{IsWrittenCause}
 use Rattle.fancy_regex_meta.proofs.StrategyLemmas.{states_are, exactly_states}
 use Rattle.fancy_regex_meta.proofs.strategy.regular_states.Goals as goal
 
@@ -24,5 +26,7 @@ returns-clause-exact c =
 
 pub returns-clause-refused : goal.returns-clause-refused
 returns-clause-refused c =
-    let cs = classes (tree_of (out-Info c.args.info.now).expr.now) in
-    subst (λ (u : Bool). IfErr c.if_supported.result (IsClassCause u cs)) c.compile_options.ensures.unicode c.if_supported.ensures.refused
+    let i = c.args.info.now in
+    subst (λ (u : Bool). IfErr c.if_supported.result (λ cause. (t : Tree) → info_of i ≡ analysis false t → IsWrittenCause u (pattern_of t) cause))
+    c.compile_options.ensures.unicode
+    (IfErr-weaker c.if_supported.result _ _ (λ cause why t is. why false t is) c.if_supported.ensures.refused)

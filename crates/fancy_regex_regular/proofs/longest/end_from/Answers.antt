@@ -44,8 +44,8 @@ returns-clause-end c pattern is =
     (rw c.new-looked.ensures.text at c.in_ok-end.ensures.answer) (text_view a.view) ways has_ways (c.restart.ensures.remembers ways) in
     let is_end : c.in_ok-end.end ≡ end_in c.args.least stop (ways_from regular text input pattern c.args.start) =
     said
-    ∙ ap (option_map (λ t. t.end)) (a.means is.states.regular c.args.start c.requires.start.0)
-    ∙ end_of_way (unset regular.unicode text input pattern is.states.regular) (first_in c.args.least stop (ways_from regular text input pattern c.args.start))
-    (tried_from regular.unicode text input pattern is.states.regular c.args.least c.args.start)
-    (way_from regular.unicode text input pattern is.states.regular regular.longest c.args.least c.args.start c.requires.start.0) in
+    ∙ ap (option_map (λ t. t.end)) (a.means c.args.start c.requires.start.0)
+    ∙ end_of_way (unset regular.unicode text input pattern is.states.of_tree is.states.all_classes is.states.base is.states.called is.states.regular is.states.stand) (first_in c.args.least stop (ways_from regular text input pattern c.args.start))
+    (tried_from regular.unicode text input pattern is.states.of_tree is.states.all_classes is.states.base is.states.called is.states.regular is.states.stand c.args.least c.args.start)
+    (way_from regular.unicode text input pattern is.states.of_tree is.states.all_classes is.states.base is.states.called is.states.regular is.states.stand regular.longest c.args.least c.args.start c.requires.start.0) in
     c.if_inside.ensures.same (end_is_between c.args.least stop (ways_from regular text input pattern c.args.start) c.in_ok-end.end is_end) ∙ is_end

@@ -9,15 +9,16 @@ use Rattle.fancy_regex_linear.specs.Program.{emitted}
 use Rattle.std.specs.Option.{ForSome}
 use Rattle.fancy_regex_linear.specs.Before.{IsBeforeOf}
 use Rattle.fancy_regex_linear.proofs.PassingLemmas.{before_is}
-use Rattle.fancy_regex_linear.specs.Plain.{IsPlain, IsRegular, classes, re_of}
+use Rattle.fancy_regex_linear.specs.Plain.{IsPlain, classes, re_of}
 use Rattle.fancy_regex_meaning.specs.Groups.{group_count}
 use Rattle.fancy_regex_linear.specs.Easy.{HaveMatchers}
-use Rattle.fancy_regex_linear.specs.Translation.{Extends}
+use Rattle.fancy_regex_linear.specs.Translation.{Extends, IsWritable, called_in}
+use Rattle.fancy_regex_info.specs.AnalysisRelations.{AreCallSizes}
 use Rattle.fancy_regex_linear.specs.Refusals.{IsClassCause, IsCause}
 use Rattle.fancy_regex_states.specs.declared.state.State.{State}
 use Rattle.fancy_regex_states.specs.declared.state.State.TheVariants.{Match as End}
 use Rattle.fancy_regex_linear.proofs.PlainLemmas.{plain_regular}
-use Rattle.fancy_regex_linear.proofs.TranslationLemmas.{is_made, count_is, whole_is, program_is, serves_all, serves}
+use Rattle.fancy_regex_linear.proofs.TranslationLemmas.{is_made, count_is, whole_is, program_is, no_sizes, serves_all, serves}
 use Rattle.fancy_regex_linear.proofs.ServedLemmas.{info_is_of, light_by, heavy_by, read_by, cause_of}
 use Rattle.fancy_regex_linear.proofs.easy.Easy.compiled.Goals as goal
 use Rattle.fancy_regex_linear.proofs.easy.Easy.compiled.Goals.{In_ok-entry}
@@ -52,13 +53,14 @@ returns-clause-made c = λ explicit t is.
     let unicode = c.args.options.now.unicode in
     let begins : (c.start_group-explicit.result == 0) ≡ explicit = ap (λ (n : ℕ). n == 0) c.start_group-explicit.ensures ∙ of.start in
     let first : c.new-translator.result.next_group ≡ (if explicit then 0 else 1) = c.new-translator.ensures.first ∙ ap (λ b. if b then 0 else 1) begins in
-    let regular = plain_regular t plain in
-    let built = subst (λ u. IsRegular u → (groups : List Tree) → shape c.in_ok-translated.translated.node
-    ≡ re_of c.new-translator.result.unicode groups c.new-translator.result.next_group (length c.new-translator.result.matchers.items) u) of.tree c.in_ok-translated.ensures.shape regular in
+    let regular = plain_regular (λ j. Unit {0}) t plain in
+    let built = subst (λ u. IsWritable u → (groups : List Tree) → AreCallSizes groups c.new-translator.result.sizes.items → shape c.in_ok-translated.translated.node
+    ≡ re_of c.new-translator.result.unicode groups (called_in c.new-translator.result.called.items) c.new-translator.result.next_group
+    (length c.new-translator.result.matchers.items) u) of.tree c.in_ok-translated.ensures.shape regular [] (rw c.new-translator.ensures.tables.0 no_sizes) in
     let added = subst (λ u. Extends c.new-translator.result.unicode c.new-translator.result.matchers.items c.translated.new.self.matchers.items (classes u)) of.tree c.in_ok-translated.ensures.matchers in
-    let count = subst (λ u. IsRegular u → c.translated.new.self.next_group ≡ c.new-translator.result.next_group + group_count u) of.tree c.in_ok-translated.ensures.groups regular in
+    let count = subst (λ u. IsWritable u → c.translated.new.self.next_group ≡ c.new-translator.result.next_group + group_count u) of.tree c.in_ok-translated.ensures.groups regular in
     let program = program_is unicode explicit t c.new-translator.result c.in_ok-translated.translated.node c.emit.new.states.items c.in_ok-entry.entry
-    c.new-translator.ensures.unicode first c.new-translator.ensures.matchers built (states (goal.at.returns-clause-made c).In_ok-entry) in
+    c.new-translator.ensures.unicode first c.new-translator.ensures.matchers c.new-translator.ensures.tables.1 built (states (goal.at.returns-clause-made c).In_ok-entry) in
     let matchers : HaveMatchers unicode c.translated.new.self.matchers.items (classes t) =
     serves_all _ _ _ _ c.new-translator.ensures.matchers (rw c.new-translator.ensures.unicode at added) in
     record {

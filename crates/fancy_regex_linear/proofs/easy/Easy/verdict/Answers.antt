@@ -1,9 +1,9 @@
-use Rattle.std.proofs.Common.{◌≡◌, ℕ, ◌*◌, ◌≤◌, ◌∙◌, List, length, replicate, sym, ap, arith}
+use Rattle.std.proofs.Common.{◌≡◌, ℕ, ◌*◌, ◌≤◌, ◌∙◌, List, [], length, replicate, sym, ap, arith}
 use Rattle.std.specs.Prelude.{is_some}
 use Rattle.fancy_regex_class.specs.RunInputs.{setting_for}
 use Rattle.fancy_regex_linear.specs.EasyPatterns.{match_for, span_of_match}
 use Rattle.fancy_regex_linear.specs.Find.{earliest, places, span_of_found}
-use Rattle.fancy_regex_linear.specs.Plain.{classes, re_of}
+use Rattle.fancy_regex_linear.specs.Plain.{no_calls, classes, re_of}
 use Rattle.fancy_regex_linear.specs.SettingView.{view_of}
 use Rattle.fancy_regex_linear.specs.Starts.{spot_from}
 use Rattle.fancy_regex_linear.specs.Verdicts.{has_match}
@@ -45,10 +45,10 @@ returns-clause-verdict c pattern is =
     let self = c.args.self.now in
     let text = c.args.text.now in
     let input = c.args.input.now in
-    let re = re_of self.unicode pattern.groups pattern.first_group 0 pattern.tree in
+    let re = re_of self.unicode [] no_calls pattern.first_group 0 pattern.tree in
     let view = view_of (setting_for self.unicode text input) (classes pattern.tree) self.longest in
-    let d = program_does view input.range.end self.states.items self.entry re (is.serves.program, sound self.unicode pattern.groups pattern.first_group 0 pattern.tree is.serves.plain)
-    (plain_may self.unicode pattern.groups pattern.first_group 0 pattern.tree is.serves.plain) in
+    let d = program_does view input.range.end self.states.items self.entry re (is.serves.program, sound self.unicode [] no_calls pattern.first_group 0 pattern.tree is.serves.plain)
+    (plain_may self.unicode [] no_calls pattern.first_group 0 pattern.tree is.serves.plain) in
     let shows = shows_all self.unicode self.longest text input self.matchers.items (classes pattern.tree) is.serves.matchers_are c.utf8.text in
     let below : input.first ≤ input.range.end = omega (arith, c.if-at-stop.false) in
     let free : List ℕ = replicate (2 * length pattern.groups) 18446744073709551615 in

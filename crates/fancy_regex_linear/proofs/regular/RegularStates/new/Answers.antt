@@ -1,84 +1,134 @@
-use Rattle.std.proofs.Common.{◌≡◌, ◌∙◌, ap, ap₂, [], ◌∷◌, Bool, List, ℕ, ◌==◌, if◌then◌else◌, ◌++◌, length, sym, subst, rules, refl, true≢false}
+use Rattle.std.proofs.Common.{◌≡◌, ◌∙◌, [], ◌∷◌, ◌++◌, Bool, List, ℕ, ◌==◌, if◌then◌else◌, map, ap, sym, subst, rules, refl, inl, inr, true≢false}
+use Rattle.std.proofs.lemmas.Result.{MatchResult-from_err}
 use Rattle.fancy_regex_tree.specs.Tree.{Tree, tree_of}
-use Rattle.fancy_regex_class.specs.declared.class.CharClassMatcher.{CharClassMatcher}
-use Rattle.fancy_regex_info.specs.declared.info.Info.{out-Info}
-use Rattle.fancy_regex_linear.specs.Re.{Re, shape}
-use Rattle.fancy_regex_linear.specs.Program.{emitted, IsSound}
-use Rattle.fancy_regex_linear.specs.Plain.{IsRegular, classes, re_of}
 use Rattle.fancy_regex_info.specs.Analysis.{analysis}
 use Rattle.fancy_regex_info.specs.Infos.{info_of}
-use Rattle.fancy_regex_info.specs.Views.{pattern_in}
-use Rattle.fancy_regex_linear.specs.RegularStates.{IsMadeFor}
-use Rattle.fancy_regex_linear.specs.Easy.{HaveMatchers}
+use Rattle.fancy_regex_info.specs.Views.{body_tree, pattern_in}
+use Rattle.fancy_regex_info.specs.declared.info.Info.{out-Info}
+use Rattle.fancy_regex_info.specs.declared.error.CompileError.{CompileError}
+use Rattle.fancy_regex_info.specs.declared.error.CompileError.TheVariants.{Memory}
+use Rattle.fancy_regex_linear.specs.Re.{shape}
+use Rattle.fancy_regex_linear.specs.Program.{emitted}
+use Rattle.fancy_regex_linear.specs.Plain.{IsRegular, classes}
+use Rattle.fancy_regex_linear.specs.CalledClasses.{IsReached, IsBodyCause, IsWrittenCause}
+use Rattle.fancy_regex_linear.specs.CallMarks.{WritesCalls}
 use Rattle.fancy_regex_linear.specs.Refusals.{IsClassCause}
-use Rattle.fancy_regex_linear.specs.Translation.{Extends}
+use Rattle.fancy_regex_linear.specs.RegularStates.{IsMadeOrShort}
 use Rattle.fancy_regex_states.specs.declared.state.State.{State}
 use Rattle.fancy_regex_states.specs.declared.state.State.TheVariants.{Match as End}
-use Rattle.fancy_regex_linear.proofs.TranslationLemmas.{program_is, shape_is, serves_all}
-use Rattle.fancy_regex_linear.proofs.RegularStateLemmas.{are_states}
+use Rattle.fancy_regex_linear.proofs.ExactLemmas.{groups_same}
 use Rattle.fancy_regex_linear.proofs.ServedLemmas.{info_is_of}
+use Rattle.fancy_regex_linear.proofs.TranslationLemmas.{is_made, first_is, tree_is}
+use Rattle.fancy_regex_linear.proofs.WrittenLemmas.{of_a_tree, are_states, cause_of_tree, cause_of_called}
 use Rattle.fancy_regex_linear.proofs.regular.RegularStates.new.Goals as goal
 
 pub returns-clause-made : goal.returns-clause-made
 returns-clause-made c explicit t is =
     let of = info_is_of c.args.info.now explicit t is in
-    let regular : IsRegular t = subst IsRegular of.tree (c.are_made_for.ensures.regular c.if-not-are_made_for.false) in
     let unicode = c.args.options.now.unicode in
+    let pattern = pattern_in explicit t in
+    let u = tree_of (out-Info c.args.info.now).expr.now in
+    let groups = map body_tree c.deref.result.now in
     let begins : (c.start_group-explicit.result == 0) ≡ explicit = ap (λ (n : ℕ). n == 0) c.start_group-explicit.ensures ∙ of.start in
-    let first : c.new-translator.result.next_group ≡ (if explicit then 0 else 1) = c.new-translator.ensures.first ∙ ap (λ b. if b then 0 else 1) begins in
-    let built = subst (λ u. IsRegular u → (groups : List Tree) → shape c.in_ok-translated.translated.node
-    ≡ re_of c.new-translator.result.unicode groups c.new-translator.result.next_group (length c.new-translator.result.matchers.items) u) of.tree c.in_ok-translated.ensures.shape regular in
-    let added = subst (λ u. Extends c.new-translator.result.unicode c.new-translator.result.matchers.items c.translated.new.self.matchers.items (classes u)) of.tree c.in_ok-translated.ensures.matchers in
+    let same_groups : groups ≡ pattern.groups =
+    groups_same c.deref.result.now c.in_ok-bodies.bodies.items c.deref.ensures.value (c.start_group-explicit.result == 0) explicit u t begins of.tree c.in_ok-bodies.ensures in
+    let same_tree : u ≡ pattern.tree = of.tree ∙ sym (tree_is explicit t) in
     let one : c.add.new.states.items ≡ End ∷ [] = c.in_ok-add.ensures.states ∙ ap (λ (xs : List State). xs ++ End ∷ []) c.new-states.ensures.items in
     let made : emitted (shape c.in_ok-translated.translated.node) (End ∷ []) 0 ≡ (c.emit.new.states.items, c.in_ok-entry.entry) = rw one at c.in_ok-entry.ensures.made in
-    let program = program_is unicode explicit t c.new-translator.result c.in_ok-translated.translated.node c.emit.new.states.items c.in_ok-entry.entry
-    c.new-translator.ensures.unicode first c.new-translator.ensures.matchers built made in
-    let same = shape_is unicode explicit t c.new-translator.result c.in_ok-translated.translated.node c.new-translator.ensures.unicode first c.new-translator.ensures.matchers built in
-    let sound = subst IsSound same c.in_ok-translated.ensures.sound in
-    let matchers : HaveMatchers unicode c.translated.new.self.matchers.items (classes t) =
-    serves_all _ _ _ _ c.new-translator.ensures.matchers (rw c.new-translator.ensures.unicode at added) in
-    are_states unicode explicit t _ _ _ regular program sound matchers
+    let first : c.write_calls.new.self.next_group ≡ pattern.first_group =
+    c.in_ok-write_calls.ensures.groups ∙ c.new-translator.ensures.first ∙ ap (λ b. if b then 0 else 1) begins ∙ first_is explicit t in
+    let same : c.write_calls.new.self.unicode ≡ unicode = c.in_ok-write_calls.ensures.unicode ∙ c.new-translator.ensures.unicode in
+    let writes : WritesCalls groups u unicode c.write_calls.new.self =
+    subst (λ b. WritesCalls groups u b c.write_calls.new.self) c.new-translator.ensures.unicode
+    (c.in_ok-write_calls.ensures.calls c.new-translator.ensures.matchers c.new-translator.ensures.tables.1) in
+    are_states unicode pattern groups u same_groups same_tree (of_a_tree explicit t) c.write_calls.new.self c.translated.new.self c.in_ok-translated.translated.node
+    c.emit.new.states.items c.in_ok-entry.entry same first c.in_ok-write_calls.ensures.sizes ((c.in_ok-is_made.ensures.exact explicit t is).0 c.if-not-is_made.false) writes
+    c.in_ok-translated.ensures.shape c.in_ok-translated.ensures.matchers c.in_ok-translated.ensures.sound made
 
 pub returns-clause-program : goal.returns-clause-program
-returns-clause-program c groups =
-    let translator = c.new-translator in
+returns-clause-program c =
     let one : c.add.new.states.items ≡ End ∷ [] = c.in_ok-add.ensures.states ∙ ap (λ (xs : List State). xs ++ End ∷ []) c.new-states.ensures.items in
     let made : emitted (shape c.in_ok-translated.translated.node) (End ∷ []) 0 ≡ (c.emit.new.states.items, c.in_ok-entry.entry) = rw one at c.in_ok-entry.ensures.made in
-    let tree = tree_of (out-Info c.args.info.now).expr.now in
-    let same : shape c.in_ok-translated.translated.node ≡ re_of c.args.options.now.unicode groups translator.result.next_group 0 tree =
-    c.in_ok-translated.ensures.shape (c.are_made_for.ensures.regular c.if-not-are_made_for.false) groups
-    ∙ ap₂ (λ (u : Bool) (k : ℕ). re_of u groups translator.result.next_group k tree) translator.ensures.unicode
-    (ap (λ (ms : List CharClassMatcher). length ms) translator.ensures.matchers) in
-    (translator.result.next_group, subst (λ (x : Re). emitted x (End ∷ []) 0 ≡ (c.emit.new.states.items, c.in_ok-entry.entry)) same made)
+    is_made (shape c.in_ok-translated.translated.node) c.emit.new.states.items c.in_ok-entry.entry c.in_ok-translated.ensures.sound made
 
 pub returns-clause-exact : goal.returns-clause-exact
 returns-clause-exact c explicit t is =
-    (λ some. (c.are_made_for.ensures.exact explicit t is).0 c.if-not-are_made_for.false, λ made. refl)
+    (λ some. (c.in_ok-is_made.ensures.exact explicit t is).0 c.if-not-is_made.false, λ made. refl)
 
-pub returns-then-not-are_made_for-clause-exact : goal.returns-then-not-are_made_for-clause-exact
-returns-then-not-are_made_for-clause-exact c explicit t is =
-    (λ some. absurd (true≢false (sym some)), λ made. absurd (true≢false (sym ((c.are_made_for.ensures.exact explicit t is).1 made) ∙ c.if-not-are_made_for.true)))
+pub returns-then-not-is_made-clause-exact : goal.returns-then-not-is_made-clause-exact
+returns-then-not-is_made-clause-exact c explicit t is =
+    (λ some. absurd (true≢false (sym some)), λ made. absurd (true≢false (sym ((c.in_ok-is_made.ensures.exact explicit t is).1 made) ∙ c.if-not-is_made.true)))
+
+pub returns-in_err-write_calls-clause-refused : goal.returns-in_err-write_calls-clause-refused
+returns-in_err-write_calls-clause-refused c =
+    let why : (explicit : Bool) (t : Tree) → info_of c.args.info.now ≡ analysis explicit t
+    → IsWrittenCause c.args.options.now.unicode (pattern_in explicit t) c.in_err-write_calls.field-0.0 =
+    λ explicit t is.
+    let of = info_is_of c.args.info.now explicit t is in
+    let unicode = c.args.options.now.unicode in
+    let pattern = pattern_in explicit t in
+    let u = tree_of (out-Info c.args.info.now).expr.now in
+    let groups = map body_tree c.deref.result.now in
+    let begins : (c.start_group-explicit.result == 0) ≡ explicit = ap (λ (n : ℕ). n == 0) c.start_group-explicit.ensures ∙ of.start in
+    let same_groups : groups ≡ pattern.groups =
+    groups_same c.deref.result.now c.in_ok-bodies.bodies.items c.deref.ensures.value (c.start_group-explicit.result == 0) explicit u t begins of.tree c.in_ok-bodies.ensures in
+    let same_tree : u ≡ pattern.tree = of.tree ∙ sym (tree_is explicit t) in
+    cause_of_called unicode pattern groups u same_groups same_tree c.in_err-write_calls.field-0.0
+    (subst (λ (b : Bool). IsBodyCause b groups (IsReached groups u) c.in_err-write_calls.field-0.0) c.new-translator.ensures.unicode c.in_err-write_calls.ensures.refused) in
+    search rules
 
 pub returns-in_err-translated-clause-refused : goal.returns-in_err-translated-clause-refused
 returns-in_err-translated-clause-refused c =
-    let cause : IsClassCause c.args.options.now.unicode (classes (tree_of (out-Info c.args.info.now).expr.now)) c.in_err-translated.field-0.0 =
-    rw c.new-translator.ensures.unicode at c.in_err-translated.ensures.refused in
+    let why : (explicit : Bool) (t : Tree) → info_of c.args.info.now ≡ analysis explicit t
+    → IsWrittenCause c.args.options.now.unicode (pattern_in explicit t) c.in_err-translated.field-0.0 =
+    λ explicit t is.
+    let of = info_is_of c.args.info.now explicit t is in
+    let unicode = c.args.options.now.unicode in
+    let pattern = pattern_in explicit t in
+    let u = tree_of (out-Info c.args.info.now).expr.now in
+    let groups = map body_tree c.deref.result.now in
+    let begins : (c.start_group-explicit.result == 0) ≡ explicit = ap (λ (n : ℕ). n == 0) c.start_group-explicit.ensures ∙ of.start in
+    let same_groups : groups ≡ pattern.groups =
+    groups_same c.deref.result.now c.in_ok-bodies.bodies.items c.deref.ensures.value (c.start_group-explicit.result == 0) explicit u t begins of.tree c.in_ok-bodies.ensures in
+    let same_tree : u ≡ pattern.tree = of.tree ∙ sym (tree_is explicit t) in
+    cause_of_tree unicode pattern groups u same_groups same_tree c.in_err-translated.field-0.0
+    (subst (λ (b : Bool). IsClassCause b (classes u) c.in_err-translated.field-0.0)
+    (c.in_ok-write_calls.ensures.unicode ∙ c.new-translator.ensures.unicode) c.in_err-translated.ensures.refused) in
     search rules
+
+pub returns-in_err-bodies-clause-only : goal.returns-in_err-bodies-clause-only
+returns-in_err-bodies-clause-only c =
+    MatchResult-from_err c.from_residual-in_err-bodies.result _ _ c.from_residual-in_err-bodies.ensures.0
+    (λ error explicit t is. inl ((c.in_ok-is_made.ensures.exact explicit t is).0 c.if-not-is_made.false))
+
+pub returns-in_err-write_calls-clause-only : goal.returns-in_err-write_calls-clause-only
+returns-in_err-write_calls-clause-only c =
+    MatchResult-from_err c.from_residual-in_err-write_calls.result _ _ c.from_residual-in_err-write_calls.ensures.0
+    (λ error explicit t is. inl ((c.in_ok-is_made.ensures.exact explicit t is).0 c.if-not-is_made.false))
 
 pub returns-in_err-translated-clause-only : goal.returns-in_err-translated-clause-only
 returns-in_err-translated-clause-only c =
-    let only : (explicit : Bool) (t : Tree) → info_of c.args.info.now ≡ analysis explicit t → IsMadeFor (pattern_in explicit t) =
-    λ explicit t is. (c.are_made_for.ensures.exact explicit t is).0 c.if-not-are_made_for.false in
-    search rules
+    MatchResult-from_err c.from_residual-in_err-translated.result _ _ c.from_residual-in_err-translated.ensures.0
+    (λ error explicit t is. inl ((c.in_ok-is_made.ensures.exact explicit t is).0 c.if-not-is_made.false))
 
 pub returns-in_err-add-clause-only : goal.returns-in_err-add-clause-only
 returns-in_err-add-clause-only c =
-    let only : (explicit : Bool) (t : Tree) → info_of c.args.info.now ≡ analysis explicit t → IsMadeFor (pattern_in explicit t) =
-    λ explicit t is. (c.are_made_for.ensures.exact explicit t is).0 c.if-not-are_made_for.false in
-    search rules
+    MatchResult-from_err c.from_residual-in_err-add.result _ _ c.from_residual-in_err-add.ensures.0
+    (λ error explicit t is. inl ((c.in_ok-is_made.ensures.exact explicit t is).0 c.if-not-is_made.false))
 
 pub returns-in_err-entry-clause-only : goal.returns-in_err-entry-clause-only
 returns-in_err-entry-clause-only c =
-    let only : (explicit : Bool) (t : Tree) → info_of c.args.info.now ≡ analysis explicit t → IsMadeFor (pattern_in explicit t) =
-    λ explicit t is. (c.are_made_for.ensures.exact explicit t is).0 c.if-not-are_made_for.false in
+    MatchResult-from_err c.from_residual-in_err-entry.result _ _ c.from_residual-in_err-entry.ensures.0
+    (λ error explicit t is. inl ((c.in_ok-is_made.ensures.exact explicit t is).0 c.if-not-is_made.false))
+
+pub returns-in_err-is_made-clause-only : goal.returns-in_err-is_made-clause-only
+returns-in_err-is_made-clause-only c =
+    let only : (error : CompileError) → error ≡ Memory → (explicit : Bool) (t : Tree) → info_of c.args.info.now ≡ analysis explicit t
+    → IsMadeOrShort (pattern_in explicit t) error =
+    λ error short explicit t is.
+    inr (
+      short,
+      λ p. c.in_err-is_made.ensures.calls
+          (subst (IsRegular (λ j. ⊥)) (sym ((info_is_of c.args.info.now explicit t is).tree ∙ sym (tree_is explicit t))) p),
+    ) in
     search rules

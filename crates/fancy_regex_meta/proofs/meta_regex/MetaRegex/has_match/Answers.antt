@@ -7,8 +7,14 @@ use Rattle.fancy_regex_meta.specs.Patterns.{tree_in}
 use Rattle.fancy_regex_meta.specs.MetaMatches.{meta_pattern}
 use Rattle.fancy_regex_meta.specs.Strategies.{search_of}
 use Rattle.fancy_regex_meta.specs.SearchLimits.{IsSearchError, meta_tree, meta_uses_easy, run_choices}
-use Rattle.fancy_regex_meta.proofs.SearchLemmas.{if_ok, if_err, no-match, IsSearchError-prop, IsStrategyError-prop, StrategyStaysInLimits-prop, executes-under}
+use Rattle.fancy_regex_meta.proofs.SearchLemmas.{if_ok, if_err, no-match, IsSearchError-prop, IsStrategyError-prop, StrategyStaysInLimits-prop, executes-under, executes-whole}
 use Rattle.fancy_regex_meta.proofs.meta_regex.MetaRegex.has_match.Goals as goal
+
+-- group 0 is the whole match
+pub has_match-requires-clause-whole : goal.has_match-requires-clause-whole
+has_match-requires-clause-whole c =
+    let s = c.args.self.now in
+    ∥∥₁_elim s.made (Bool-set _ _) (λ made. executes-whole s.strategy s.options (tree_in s.options (string_bytes s.pattern)) made.runs)
 
 -- past the range there is no match
 pub returns-then-input-clause-answer : goal.returns-then-input-clause-answer

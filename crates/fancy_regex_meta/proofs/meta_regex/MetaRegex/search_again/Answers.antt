@@ -3,6 +3,7 @@ use Rattle.std.specs.Prelude.{option_map, string_bytes}
 use base.Stored.{Coded-set}
 use Rattle.std.specs.Coded.{coded_option}
 use mathlib.Core.Logic.{∥∥₁_elim}
+use Rattle.std.proofs.Math.Bool.{Bool-set}
 use Rattle.std.proofs.Math.Bridge.{le_prop}
 use Rattle.fancy_regex_class.specs.RunInputs.{setting_for}
 use Rattle.fancy_regex_meta.specs.Patterns.{tree_in}
@@ -10,9 +11,15 @@ use Rattle.fancy_regex_meta.specs.MetaMatches.{meta_pattern}
 use Rattle.fancy_regex_meta.specs.FoundParts.{wanted_parts}
 use Rattle.fancy_regex_meta.specs.Strategies.{search_of}
 use Rattle.fancy_regex_meta.specs.SearchLimits.{IsSearchError, meta_tree, meta_uses_easy, run_choices}
-use Rattle.fancy_regex_meta.proofs.SearchLemmas.{if_ok, if_err, no-match, none-tried, IsSearchError-prop, IsStrategyError-prop, StrategyStaysInLimits-prop, executes-under}
+use Rattle.fancy_regex_meta.proofs.SearchLemmas.{if_ok, if_err, no-match, none-tried, IsSearchError-prop, IsStrategyError-prop, StrategyStaysInLimits-prop, executes-under, executes-whole}
 use Rattle.fancy_regex_meta.proofs.MatchOffsetLemmas.{found_within, coded_parts}
 use Rattle.fancy_regex_meta.proofs.meta_regex.MetaRegex.search_again.Goals as goal
+
+-- group 0 is the whole match
+pub search-requires-clause-whole : goal.search-requires-clause-whole
+search-requires-clause-whole c =
+    let s = c.args.self.now in
+    ∥∥₁_elim s.made (Bool-set _ _) (λ made. executes-whole s.strategy s.options (tree_in s.options (string_bytes s.pattern)) made.runs)
 
 -- past the range nothing is found
 pub returns-then-input-clause-answer : goal.returns-then-input-clause-answer

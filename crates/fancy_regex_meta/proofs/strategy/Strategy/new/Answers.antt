@@ -11,8 +11,7 @@ use Rattle.fancy_regex_info.specs.Analysis.{analysis}
 use Rattle.fancy_regex_info.specs.Infos.{info_of}
 use Rattle.fancy_regex_info.specs.declared.options.CompileOptions.{CompileOptions}
 use Rattle.fancy_regex_analysis.proofs.PartErrorLemmas.{gives}
-use Rattle.fancy_regex_linear.specs.Plain.{classes}
-use Rattle.fancy_regex_linear.specs.Refusals.{IsTaken, IsCause, IsClassCause}
+use Rattle.fancy_regex_linear.specs.Refusals.{IsTaken, IsCause}
 use Rattle.fancy_regex_meta.specs.Refusals.{compile_options_of, IsCompileRefusal}
 use Rattle.fancy_regex_meta.specs.EasyPatterns.{uses_easy}
 use Rattle.fancy_regex_meta.specs.SeekTables.{IsSeekTable}
@@ -185,15 +184,13 @@ returns-then-info-clause-refused c =
 pub returns-then-info-clause-long : goal.returns-then-info-clause-long
 returns-then-info-clause-long c =
     IfErr-weaker c.hard_strategy.result _ _
-    (λ cause why t is e long. absurd (true≢false (sym long ∙ class_not_complex _ _ cause why)))
+    (λ cause why t is e long. absurd (true≢false (sym long ∙ class_not_complex c.args.options.now.unicode_mode t cause (why t is))))
     c.hard_strategy.ensures.refused
 
 pub returns-then-info-clause-reason : goal.returns-then-info-clause-reason
 returns-then-info-clause-reason c =
-    let o = c.args.options.now in
     IfErr-weaker c.hard_strategy.result _ _
-    (λ cause why t is e clear. class_refusal o c.args.calls t cause clear
-    (subst (λ u. IsClassCause o.unicode_mode (classes u) cause) (analyzed_tree c.args.info.now t is) why))
+    (λ cause why t is e clear. class_refusal c.args.options.now c.args.calls t cause clear (why t is))
     c.hard_strategy.ensures.refused
 
 -- which strategies are no program alone

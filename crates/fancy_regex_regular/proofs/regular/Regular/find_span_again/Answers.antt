@@ -11,14 +11,17 @@ use Rattle.fancy_regex_regular.proofs.regular.Regular.find_span_again.Goals.{In-
 
 pub returns-in_default-clause-answer : goal.returns-in_default-clause-answer
 returns-in_default-clause-answer c pattern is =
-    none_wanted c.args.self.now.unicode c.args.text.now c.args.input.now pattern is.states.regular c.args.self.now.longest
+    none_wanted c.args.self.now.unicode c.args.text.now c.args.input.now pattern is.states.of_tree is.states.all_classes
+    is.states.base is.states.called is.states.regular is.states.stand c.args.self.now.longest
     (sym c.in_default.is ∙ c.in_ok-first.ensures.answer pattern is)
 
 -- where the first match starts and ends
 found : (c : In-Some) (pattern : Pattern) (is : IsRegularOf c.args.self.now pattern)
-    → IsFirstAt c.args.self.now.unicode c.args.text.now c.args.input.now pattern is.states.regular c.in-Some.start c.in-Some.end
+    → IsFirstAt c.args.self.now.unicode c.args.text.now c.args.input.now pattern is.states.of_tree is.states.all_classes
+    is.states.base is.states.called is.states.regular is.states.stand c.in-Some.start c.in-Some.end
 found c pattern is =
-    first_at c.args.self.now.unicode c.args.text.now c.args.input.now pattern is.states.regular c.in-Some.start c.in-Some.end
+    first_at c.args.self.now.unicode c.args.text.now c.args.input.now pattern is.states.of_tree is.states.all_classes
+    is.states.base is.states.called is.states.regular is.states.stand c.in-Some.start c.in-Some.end
     (sym c.in-Some.is ∙ c.in_ok-first.ensures.answer pattern is)
 
 pub returns-then-end-input-clause-answer : goal.returns-then-end-input-clause-answer

@@ -1,7 +1,6 @@
 use Rattle.std.proofs.Common.{◌≡◌, ◌∙◌, ◌+◌, ◌-◌, ◌≤◌, ℕ, ◌*◌, Bool, false, List, Some, length, replicate, sym, ap, ap₂, subst, arith, rules}
 use Rattle.std.proofs.lemmas.List.{length-replicate}
 use Rattle.std.specs.Prelude.{IfSome}
-use Rattle.fancy_regex_states.specs.Attempts.{View}
 use Rattle.fancy_regex_meaning.specs.Groups.{Pattern}
 use Rattle.fancy_regex_regular.specs.Weights.{tree_state_weight}
 use Rattle.fancy_regex_meaning.specs.Positions.{boundaries}
@@ -10,9 +9,9 @@ use Rattle.fancy_regex_class.specs.RunInputs.{match_slots}
 use Rattle.fancy_regex_parts.specs.Find.{earliest}
 use Rattle.fancy_regex_parts.specs.Frames.{IsInReach}
 use Rattle.fancy_regex_parts.specs.Tables.{lowest_of}
-use Rattle.fancy_regex_parts.specs.Layers.{CanAsk, HasWays, IsTrueOf}
+use Rattle.fancy_regex_parts.specs.Layers.{HasWays, IsTrueOf}
 use Rattle.fancy_regex_parts.specs.Walk.{apply as walk_apply}
-use Rattle.fancy_regex_parts.specs.Ways.{Ways, ways_of, text_view}
+use Rattle.fancy_regex_parts.specs.Ways.{ways_of, text_view}
 use Rattle.fancy_regex_linear.specs.Easy.{found_slots, found_at}
 use Rattle.fancy_regex_linear.specs.EasyPatterns.{span_of_match}
 use Rattle.fancy_regex_parts.proofs.AskLemmas.{asks_on, leaves_on}
@@ -78,8 +77,8 @@ returns-then-input-clause-answer c pattern is =
     (none_past c.args.self.now.unicode _ _ _ pattern is.states c.args.text.now c.args.input.now false (omega (arith, c.if-input.true)))
 
 -- what the states do in the text
-searched : (c : In_ok-found) (pattern : Pattern) → IsRegularOf c.args.self.now pattern
-    → IsSearched c.args.self.now.unicode c.args.self.now.table.states.items c.args.self.now.entry c.args.self.now.matchers.items pattern
+searched : (c : In_ok-found) (pattern : Pattern) (is : IsRegularOf c.args.self.now pattern)
+    → IsSearched c.args.self.now.unicode c.args.self.now.table.states.items c.args.self.now.entry c.args.self.now.matchers.items pattern is.states
     c.args.text.now c.args.input.now (continue_place c.args.self.now c.args.input.now)
 searched c pattern is =
     is_searched c.args.self.now.unicode c.args.self.now.table.states.items c.args.self.now.entry c.args.self.now.matchers.items pattern is.states

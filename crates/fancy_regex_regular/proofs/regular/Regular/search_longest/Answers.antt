@@ -1,11 +1,10 @@
-use Rattle.std.proofs.Common.{◌≡◌, ◌∙◌, ◌*◌, ℕ, Bool, true, false, List, Some, None, length, replicate, sym, ap, ap₂, subst, arith}
+use Rattle.std.proofs.Common.{◌≡◌, ◌∙◌, ◌*◌, ℕ, Bool, true, false, List, Some, length, replicate, sym, ap, ap₂, subst, arith}
 use Rattle.std.proofs.lemmas.List.{length-replicate}
 use Rattle.std.specs.Prelude.{option_map, IsCharBoundary}
 use Rattle.fancy_regex_meaning.specs.Searches.{first_match, match_of}
 use Rattle.fancy_regex_class.specs.RunInputs.{match_slots, setting_for, search_for}
-use Rattle.fancy_regex_parts.specs.Layers.{HasWays, IsTrueOf}
 use Rattle.fancy_regex_parts.specs.Walk.{apply as walk_apply}
-use Rattle.fancy_regex_parts.specs.Ways.{ways_of, text_view}
+use Rattle.fancy_regex_parts.specs.Ways.{ways_of}
 use Rattle.fancy_regex_linear.specs.Easy.{found_slots, found_at}
 use Rattle.fancy_regex_linear.specs.EasyPatterns.{span_of_match}
 use Rattle.fancy_regex_linear.proofs.MeaningLemmas.{spot_of}
@@ -44,21 +43,20 @@ returns-clause-answer c pattern is =
     let input = c.args.input.now in
     let start = c.in-Some.start in
     let end = c.in-Some.end in
-    let regular = is.states.regular in
     let context = c.context-context.ensures in
     let place : IsCharBoundary text start = rw c.in-Some.is at c.in_ok-found.ensures.start in
     let far = c.requires.longest in
     let span : Some (start, end) ≡ option_map span_of_match (first_match (setting_for self.unicode text input) pattern (search_for true input)) =
     rw far at (sym c.in-Some.is ∙ c.in_ok-found.ensures.answer pattern is) in
-    let l = longest_at self.unicode text input pattern regular start end span in
+    let l = longest_at self.unicode text input pattern is.states.of_tree is.states.all_classes is.states.base is.states.called is.states.regular is.states.stand start end span in
     let a = is_asked self.unicode self.table.states.items self.entry self.matchers.items pattern is.states text input (continue_place self input) end
     (place_for self input) c.utf8.text in
-    let none_set = unset self.unicode text input pattern regular in
-    let way = trace_of none_set l.state (tried_from self.unicode text input pattern regular end start)
-    (sym (ap (option_map spot_of) l.there) ∙ way_from self.unicode text input pattern regular false end start place.0) in
+    let none_set = unset self.unicode text input pattern is.states.of_tree is.states.all_classes is.states.base is.states.called is.states.regular is.states.stand in
+    let way = trace_of none_set l.state (tried_from self.unicode text input pattern is.states.of_tree is.states.all_classes is.states.base is.states.called is.states.regular is.states.stand end start)
+    (sym (ap (option_map spot_of) l.there) ∙ way_from self.unicode text input pattern is.states.of_tree is.states.all_classes is.states.base is.states.called is.states.regular is.states.stand false end start place.0) in
     let tried = tried_in c.context-context.result self input end context text a.view a.go a.first a.does a.shows in
     let written = (rw c.new-looked.ensures.text at c.in_ok-walk.ensures.written) a.view a.go tried (c.restart.ensures.remembers (ways_of a.go)) way.trace
-    (subst (λ (q : ℕ). (a.go q start).answer ≡ Some way.trace) (sym context.entry_is) (a.means regular start place.0 ∙ way.answer_is)) in
+    (subst (λ (q : ℕ). (a.go q start).answer ≡ Some way.trace) (sym context.entry_is) (a.means start place.0 ∙ way.answer_is)) in
     let empty : c.in_ok-written.written.items ≡ replicate (2 * length pattern.groups) 18446744073709551615 =
     c.in_ok-written.ensures ∙ ap (λ (n : ℕ). replicate (2 * n) 18446744073709551615) is.groups in
     let count : length c.deref_mut.result.now ≡ 2 * length pattern.groups =
