@@ -1,17 +1,14 @@
--- Tables of which groups can be called, level by level.
-use Rattle.std.proofs.Common.{◌≡◌, ◌↔◌, ◌⊎◌, ◌∙◌, ℕ, zero, suc, ◌+◌, ◌<◌, ◌≤◌, Bool, true, false, true≢false, List, [], ◌∷◌, ◌++◌, length, map, get_or, slice_get, Option, Some, None, Bor, refl, sym, ⊎_elim, arith}
+-- Tables of what is known of the groups that are called.
+use Rattle.std.proofs.Common.{◌≡◌, ◌⊎◌, ◌∙◌, ℕ, zero, suc, ◌+◌, ◌<◌, ◌≤◌, Bool, false, List, [], ◌∷◌, ◌++◌, length, get_or, slice_get, Option, Some, None, refl, sym, ⊎_elim, arith}
 use Rattle.std.specs.Prelude.{is_some}
 use Rattle.std.proofs.lemmas.Bool.{cases_lt}
 use Rattle.std.proofs.lemmas.Option.{none-some}
 use Rattle.fancy_regex_tree.specs.Tree.{Tree, Text}
-use Rattle.fancy_regex_tree.specs.declared.expr.Expr.{Expr}
 use Rattle.fancy_regex_meaning.specs.Sizes.{target}
 use Rattle.fancy_regex_info.specs.AnalysisRelations.{mark_at}
-use Rattle.fancy_regex_info.specs.Views.{body_tree}
-use Rattle.fancy_regex_info.proofs.TableLemmas.{body_at, no_body}
 use Rattle.fancy_regex_linear.specs.Re.{Re}
-use Rattle.fancy_regex_linear.specs.Plain.{IsRegular, classes}
-use Rattle.fancy_regex_linear.specs.Calls.{OfBody, AreAt, IsCallable, IsCallableBy, IsOfBody, IsCalled}
+use Rattle.fancy_regex_linear.specs.Plain.{classes}
+use Rattle.fancy_regex_linear.specs.Calls.{AreAt, IsOfBody, IsCalled}
 use Rattle.fancy_regex_linear.specs.Translation.{is_made}
 use Rattle.fancy_regex_linear.specs.declared.callee.Callee.{Callee}
 use Rattle.fancy_regex_linear.proofs.PlainLemmas.{regular_into}
@@ -32,60 +29,6 @@ pub no_mark : (xs : List Bool) (k : ℕ) → length xs ≤ k → mark_at xs k �
 no_mark [] k h = refl
 no_mark (x ∷ xs) zero h = absurd (omega arith)
 no_mark (x ∷ xs) (suc k) h = no_mark xs k (omega arith)
-
--- what holds of the body that is there
-at_body : (P : Tree → Type 0) (gs : List (Bor Expr)) (k : ℕ) (e : Bor Expr) → k < length gs → e ≡ get_or gs k e
-    → (P (body_tree e) → OfBody P (target (map body_tree gs) k)) × (OfBody P (target (map body_tree gs) k) → P (body_tree e))
-at_body P gs k e inside is = rw (body_at gs k e inside is) (λ h. h, λ h. h)
-
-decides : (b : Bool) (P : Type 0) → (b ≡ true → P) → (b ≡ false → P → ⊥) → (b ≡ true ↔ P)
-decides true P holds fails = (holds, λ h. refl)
-decides false P holds fails = (λ e. absurd (true≢false (sym e)), λ h. absurd (fails refl h))
-
--- one mark more
-pub marks_more : (gs : List (Bor Expr)) (marks xs ys : List Bool) (g : ℕ) (e : Bor Expr) (y : Bool) → length xs ≡ g → g < length gs → e ≡ get_or gs g e
-    → ys ≡ xs ++ y ∷ [] → (y ≡ true → IsRegular (λ j. mark_at marks j ≡ true) (body_tree e))
-    → (y ≡ false → IsRegular (λ j. mark_at marks j ≡ true) (body_tree e) → ⊥)
-    → ((k : ℕ) → k < g → (mark_at xs k ≡ true ↔ IsCallableBy (map body_tree gs) marks k))
-    → (k : ℕ) → k < g + 1 → (mark_at ys k ≡ true ↔ IsCallableBy (map body_tree gs) marks k)
-marks_more gs marks xs ys g e y long inside is made holds fails before k lt =
-    rw made
-    (⊎_elim
-    (λ (below : k < g). rw (mark_left xs y k (omega (arith, long))) (before k below))
-    (λ (above : g ≤ k).
-    let here : k ≡ g = omega (arith, lt, above) in
-    let both = at_body (IsRegular (λ j. mark_at marks j ≡ true)) gs g e inside is in
-    let told = decides y (IsRegular (λ j. mark_at marks j ≡ true) (body_tree e)) holds fails in
-    rw (here, mark_last xs y g (sym long)) (λ b. both.0 (told.0 b), λ h. told.1 (both.1 h)))
-    (cases_lt k g))
-
-pub marks_all : (gs : List (Bor Expr)) (marks xs : List Bool) (g : ℕ) → length xs ≡ g → length gs ≤ g
-    → ((k : ℕ) → k < g → (mark_at xs k ≡ true ↔ IsCallableBy (map body_tree gs) marks k))
-    → (k : ℕ) → (mark_at xs k ≡ true ↔ IsCallableBy (map body_tree gs) marks k)
-marks_all gs marks xs g long past before k =
-    ⊎_elim
-    (λ (below : k < g). before k below)
-    (λ (above : g ≤ k).
-    rw (no_mark xs k (omega (arith, long, above)), no_body gs k (omega (arith, past, above))) (λ e. absurd (true≢false (sym e)), λ h. absurd h))
-    (cases_lt k g)
-
--- before the first level nothing can be called
-pub no_level : (groups : List Tree) (xs : List Bool) → xs ≡ [] → (j : ℕ) → (mark_at xs j ≡ true ↔ IsCallable groups 0 j)
-unfolding IsCallable
-no_level groups xs none j = rw none (λ e. absurd (true≢false (sym e)), λ h. absurd h)
-
--- one level more
-pub level_more : (groups : List Tree) (marks next : List Bool) (depth : ℕ) → ((j : ℕ) → (mark_at marks j ≡ true ↔ IsCallable groups depth j))
-    → ((j : ℕ) → (mark_at next j ≡ true ↔ IsCallableBy groups marks j)) → (j : ℕ) → (mark_at next j ≡ true ↔ IsCallable groups (depth + 1) j)
-unfolding IsCallable
-level_more groups marks next depth before made j =
-    let one : depth + 1 ≡ suc depth = omega arith in
-    rw one (
-      λ e. body_into (IsRegular (λ i. mark_at marks i ≡ true)) (IsRegular (IsCallable groups depth)) (target groups j)
-          (λ t is p. regular_into (λ i. mark_at marks i ≡ true) (IsCallable groups depth) (λ i. (before i).0) t p) ((made j).0 e),
-      λ h. (made j).1 (body_into (IsRegular (IsCallable groups depth)) (IsRegular (λ i. mark_at marks i ≡ true)) (target groups j)
-          (λ t is p. regular_into (IsCallable groups depth) (λ i. mark_at marks i ≡ true) (λ i. (before i).1) t p) h),
-    )
 
 -- tables of what is known
 made_at : (called : List (Option Callee)) (i : ℕ) (o : Option Callee) → i < length called → o ≡ get_or called i o → is_made called i ≡ is_some o

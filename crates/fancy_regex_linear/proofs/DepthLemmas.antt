@@ -1,8 +1,7 @@
 -- The depth of a tree by the trees below it, and that of a tree with its calls written out.
-use Rattle.std.proofs.Common.{◌≡◌, ℕ, zero, suc, ◌+◌, ◌-◌, ◌*◌, ◌≤◌, ◌==◌, max, min, Bool, true, false, List, [], ◌∷◌, length, Option, Some, None, if◌then◌else◌, map, refl, ap, ◌∙◌, true≢false, arith}
+use Rattle.std.proofs.Common.{◌≡◌, ℕ, zero, suc, ◌+◌, ◌-◌, ◌*◌, ◌≤◌, ◌==◌, max, Bool, true, false, List, length, Option, Some, None, if◌then◌else◌, refl, ap, true≢false, arith}
 use Rattle.std.proofs.Math.Nat.{mul-le-mul_right}
-use Rattle.fancy_regex_tree.specs.declared.expr.Expr.{Expr}
-use Rattle.fancy_regex_tree.specs.Tree.{Tree, Trees, tree_of, no_trees, more_trees, concat, alt, group, look_around, repeat, atomic_group, conditional, subroutine_call}
+use Rattle.fancy_regex_tree.specs.Tree.{Tree, Trees, no_trees, more_trees, concat, alt, group, look_around, repeat, atomic_group, conditional, subroutine_call}
 use Rattle.fancy_regex_tree.specs.Tree.{absent_repeater, absent_expression, absent_stopper, define_group, ast_group}
 use Rattle.fancy_regex_tree.specs.Traversal.{listed, subtrees}
 use Rattle.fancy_regex_tree.specs.Bounds.{depth, depth_of, max_depth}
@@ -15,7 +14,7 @@ deepest_listed no_trees = refl
 deepest_listed (more_trees t ts) = ap (max (depth t)) (deepest_listed ts)
 
 -- a node is one deeper than the deepest tree below it
-depth_by_parts : (t : Tree) → depth t ≡ suc (max_depth (subtrees t))
+pub depth_by_parts : (t : Tree) → depth t ≡ suc (max_depth (subtrees t))
 depth_by_parts (concat ts) = ap suc (deepest_listed ts)
 depth_by_parts (alt ts) = ap suc (deepest_listed ts)
 depth_by_parts (group t) = omega arith
@@ -29,24 +28,6 @@ depth_by_parts (absent_stopper t) = omega arith
 depth_by_parts (define_group t) = omega arith
 depth_by_parts (ast_group name t position) = omega arith
 depth_by_parts t = refl
-
--- The greatest depth of the trees that were looked at and of those that are left: so it is at first, and so it stays.
-pub deepest_first : (t : Tree) (xs : List Expr) → map tree_of xs ≡ subtrees t
-    → max 0 (min unbounded (max_depth (map tree_of xs))) ≡ min unbounded (max_depth (subtrees t))
-deepest_first t xs h = ap (λ ts. max 0 (min unbounded (max_depth ts))) h ∙ omega arith
-
-pub deepest_next : (whole below d now : ℕ) (xs more : List Expr) (x : Expr) → xs ≡ x ∷ more
-    → max below (min unbounded (max_depth (map tree_of xs))) ≡ whole → d ≡ min unbounded (depth (tree_of x)) → now ≡ max below d
-    → max now (min unbounded (max_depth (map tree_of more))) ≡ whole
-deepest_next whole below d now xs more x is h one made =
-    let same = ap (λ es. max_depth (map tree_of es)) is in
-    omega (arith, same, h, one, made)
-
-pub deepest_last : (t : Tree) (below r : ℕ) (xs : List Expr) → xs ≡ [] → max below (min unbounded (max_depth (map tree_of xs))) ≡ min unbounded (max_depth (subtrees t))
-    → r ≡ min (below + 1) unbounded → r ≡ min unbounded (depth t)
-deepest_last t below r xs is h made =
-    let same = ap (λ es. max_depth (map tree_of es)) is in
-    omega (arith, same, h, made, depth_by_parts t)
 
 -- The depth of a tree with its calls written out, where that of calls is given. A definition and what is repeated no times become one node.
 unfoldable mutual

@@ -1,19 +1,20 @@
 -- Exactly which trees become states with parts.
-use Rattle.std.proofs.Common.{◌≡◌, ◌↔◌, ◌∙◌, ◌==◌, ◌+◌, ◌-◌, ◌*◌, ℕ, zero, suc, ◌<◌, ◌≤◌, min, max, not, ◌&&◌, Bool, true, false, true≢false, List, [], ◌∷◌, length, map, replicate, get_or, Option, Some, None, Bor, refl, sym, ap, ap₂, subst, arith}
+use Rattle.std.proofs.Common.{◌≡◌, ◌↔◌, ◌∙◌, ◌==◌, ◌+◌, ◌-◌, ◌*◌, ℕ, zero, suc, ◌<◌, ◌≤◌, min, max, not, ◌&&◌, Bool, true, false, true≢false, List, [], ◌∷◌, length, map, get_or, Option, Some, None, Bor, refl, sym, ap, ap₂, subst, arith}
 use Rattle.std.proofs.lemmas.Bool.{eqb-true}
-use Rattle.std.proofs.lemmas.List.{length-map}
-use Rattle.std.proofs.lemmas.Option.{none-some}
 use Rattle.fancy_regex_tree.specs.Tree.{Tree, Trees, tree_of, empty, any, assertion, general_newline, literal, concat, alt, group, look_around, repeat, delegate, atomic_group, conditional, verb, continue, define_group, no_trees, more_trees}
 use Rattle.fancy_regex_tree.specs.declared.expr.Expr.{Expr}
-use Rattle.fancy_regex_meaning.specs.Sizes.{unbounded, bound_of, target, size, size_through, may_be_empty, repeat_weight, branch_gaps}
-use Rattle.fancy_regex_info.specs.AnalysisRelations.{AreCallSizes, mark_at}
+use Rattle.fancy_regex_meaning.specs.Sizes.{unbounded, bound_of, may_be_empty, repeat_weight, branch_gaps}
+use Rattle.fancy_regex_info.specs.AnalysisRelations.{mark_at}
 use Rattle.fancy_regex_info.specs.Views.{pattern_in, body_tree}
 use Rattle.fancy_regex_linear.specs.Re.{nothing}
 use Rattle.fancy_regex_linear.specs.Plain.{IsRegular, AreRegular, has_no_iteration}
 use Rattle.fancy_regex_linear.specs.Calls.{IsCallable, IsWrittenOut, greatest_nesting, weight_with, weights_with, call_weight, written_weight}
-use Rattle.fancy_regex_linear.specs.CallWeights.{AreWeights, IsWeight}
+use Rattle.fancy_regex_linear.specs.Facts.{facts_in, calls_after}
+use Rattle.fancy_regex_linear.specs.declared.facts.CallFacts.{CallFacts}
+use Rattle.fancy_regex_info.specs.Analysis.{analysis}
+use Rattle.fancy_regex_info.specs.Infos.{InfoTree, properties_in}
+use Rattle.fancy_regex_linear.proofs.FactLemmas.{written_known, alone_known_at}
 use Rattle.fancy_regex_linear.proofs.PlainLemmas.{NoCall, regular_into, flag_is}
-use Rattle.fancy_regex_linear.proofs.ApartLemmas.{some_body}
 use Rattle.fancy_regex_linear.specs.RegularStates.{IsMadeFor}
 use Rattle.fancy_regex_linear.specs.Translation.{all_trees}
 
@@ -50,64 +51,25 @@ by_weight P true w real is light heavy into out = (λ e. into (omega (arith, is,
 by_weight P false w real is light heavy into out =
     (λ e. absurd (true≢false (sym e)), λ p. absurd (let over : 4000 < w = heavy refl in let under : real ≤ 4000 = out p in omega (arith, is, over, under)))
 
-pub not_made : (explicit : Bool) (t : Tree) (groups : List Tree) (u : Tree) → groups ≡ (pattern_in explicit t).groups → u ≡ t
-    → (IsWrittenOut groups u → ⊥) → ((false ≡ true) ↔ IsMadeFor (pattern_in explicit t))
-not_made explicit t groups u same is none = (
-  λ e. absurd (true≢false (sym e)),
-  λ made. absurd (none (subst (IsWrittenOut groups) (sym is) (subst (λ gs. IsWrittenOut gs t) (sym same) (made_regular explicit t made)))),
-)
+-- what is known of an analyzed tree decides
+pub not_made : (x : InfoTree) (explicit : Bool) (t : Tree) → x ≡ analysis explicit t → (calls : List CallFacts)
+    → calls ≡ calls_after x (greatest_nesting (properties_in x).end) → (facts_in calls x).is_regular ≡ false → ((false ≡ true) ↔ IsMadeFor (pattern_in explicit t))
+not_made x explicit t is calls made none =
+    let known = written_known x explicit t is calls made in (
+      λ e. absurd (true≢false (sym e)),
+      λ m. absurd (true≢false (sym (known.regular.1 (made_regular explicit t m)) ∙ none)),
+    )
 
-pub exact_by : (explicit : Bool) (t : Tree) (groups others : List Tree) (u : Tree) → groups ≡ (pattern_in explicit t).groups → others ≡ (pattern_in explicit t).groups
-    → u ≡ t → (w : ℕ) (b : Bool) → IsWrittenOut groups u → w ≡ min unbounded (written_weight others u) → (b ≡ true → w ≤ 4000) → (b ≡ false → 4000 < w)
-    → ((b ≡ true) ↔ IsMadeFor (pattern_in explicit t))
-exact_by explicit t groups others u same same_2 is w b out weighs light heavy =
-    let regular = subst (λ gs. IsWrittenOut gs t) same (subst (IsWrittenOut groups) is out) in
-    by_weight (IsMadeFor (pattern_in explicit t)) b w (written_weight (pattern_in explicit t).groups t)
-    (weighs ∙ ap₂ (λ gs v. min unbounded (written_weight gs v)) same_2 is) light heavy (made_for explicit t regular) (made_light explicit t)
-
--- the marks of the groups that can be called decide
-pub by_marks : (gs : List (Bor Expr)) (marks : List Bool)
-    → ((j : ℕ) → ((mark_at marks j ≡ true) ↔ IsCallable (map body_tree gs) (greatest_nesting (length gs)) j)) → (t : Tree) (b : Bool)
-    → (b ≡ true → IsRegular (λ j. mark_at marks j ≡ true) t) → (b ≡ false → IsRegular (λ j. mark_at marks j ≡ true) t → ⊥)
-    → ((b ≡ true) ↔ IsWrittenOut (map body_tree gs) t)
-by_marks gs marks known t b holds fails =
-    let as_many : length (map body_tree gs) ≡ length gs = length-map gs body_tree in
-    let each : (j : ℕ) → ((mark_at marks j ≡ true) ↔ IsCallable (map body_tree gs) (greatest_nesting (length (map body_tree gs))) j) = rw as_many known in
-    decided b (IsRegular (λ j. mark_at marks j ≡ true) t) (IsWrittenOut (map body_tree gs) t) holds fails
-    (regular_into (λ j. mark_at marks j ≡ true) (IsCallable (map body_tree gs) (greatest_nesting (length (map body_tree gs)))) (λ j. (each j).0) t)
-    (regular_into (IsCallable (map body_tree gs) (greatest_nesting (length (map body_tree gs)))) (λ j. mark_at marks j ≡ true) (λ j. (each j).1) t)
-  where
-    decided : (b : Bool) (P Q : Type 0) → (b ≡ true → P) → (b ≡ false → P → ⊥) → (P → Q) → (Q → P) → ((b ≡ true) ↔ Q)
-    decided true P Q holds fails into out = (λ e. into (holds e), λ q. refl)
-    decided false P Q holds fails into out = (λ e. absurd (true≢false (sym e)), λ q. absurd (fails refl (out q)))
-
--- what can be called is a group
-marked : (groups : List Tree) (j : ℕ) (t : Tree) → target groups j ≡ Some t → mark_at (replicate (length groups) true) j ≡ true
-marked [] j t e = absurd (none-some t e)
-marked (g ∷ gs) zero t e = refl
-marked (g ∷ gs) (suc j) t e = marked gs j t e
-
-callable_marked : (groups : List Tree) (depth j : ℕ) → IsCallable groups depth j → mark_at (replicate (length groups) true) j ≡ true
-unfolding IsCallable
-callable_marked groups zero j h = absurd h
-callable_marked groups (suc depth) j h =
-    let found = some_body (IsRegular (IsCallable groups depth)) (target groups j) h in marked groups j found.0 found.1
-
-pub none_of_all : (gs : List (Bor Expr)) (marks : List Bool) → marks ≡ replicate (length gs) true → (t : Tree) → IsWrittenOut (map body_tree gs) t
-    → IsRegular (λ j. mark_at marks j ≡ true) t
-none_of_all gs marks are t out =
-    let groups = map body_tree gs in
-    let as_many : length groups ≡ length gs = length-map gs body_tree in
-    let same : replicate (length groups) true ≡ marks = ap (λ n. replicate n true) as_many ∙ sym are in
-    regular_into (IsCallable groups (greatest_nesting (length groups))) (λ j. mark_at marks j ≡ true)
-    (λ j h. subst (λ ms. mark_at ms j ≡ true) same (callable_marked groups (greatest_nesting (length groups)) j h)) t out
-
-pub as_many_groups : (gs : List (Bor Expr)) (weights : List ℕ) → AreWeights weights (call_weight (map body_tree gs) (greatest_nesting (length gs)))
-    → AreWeights weights (call_weight (map body_tree gs) (greatest_nesting (length (map body_tree gs))))
-as_many_groups gs weights are = subst (λ n. AreWeights weights (call_weight (map body_tree gs) (greatest_nesting n))) (sym (length-map gs body_tree)) are
+pub exact_by : (x : InfoTree) (explicit : Bool) (t : Tree) → x ≡ analysis explicit t → (calls : List CallFacts)
+    → calls ≡ calls_after x (greatest_nesting (properties_in x).end) → (b : Bool) → (facts_in calls x).is_regular ≡ true
+    → (b ≡ true → (facts_in calls x).weight ≤ 4000) → (b ≡ false → 4000 < (facts_in calls x).weight) → ((b ≡ true) ↔ IsMadeFor (pattern_in explicit t))
+exact_by x explicit t is calls made b regular light heavy =
+    let known = written_known x explicit t is calls made in
+    by_weight (IsMadeFor (pattern_in explicit t)) b (facts_in calls x).weight (written_weight (pattern_in explicit t).groups t) known.weight light heavy
+    (made_for explicit t (known.regular.0 regular)) (made_light explicit t)
 
 -- The weight of a tree without calls rests on no other groups, nor on what calls weigh.
-not_both : (b c : Bool) → not b ≡ not c → b ≡ c
+pub not_both : (b c : Bool) → not b ≡ not c → b ≡ c
 not_both true true e = refl
 not_both true false e = absurd (true≢false (sym e))
 not_both false true e = absurd (true≢false e)
@@ -174,24 +136,16 @@ module _ (groups others : List Tree) (call other : ℕ → ℕ) where
     same_weights no_trees p = refl
     same_weights (more_trees t ts) p = ap₂ (λ (x y : ℕ). x + y) (same_weight t p.0) (same_weights ts p.1)
 
-no_sizes : AreCallSizes [] []
-unfolding size size_through
-no_sizes t = refl
-
-no_weights : AreWeights [] (λ j. 1)
-no_weights j = refl
-
 -- where a tree has no calls, no table is needed
-pub alone_exact : (explicit : Bool) (t u : Tree) → u ≡ t → (w : ℕ) (b : Bool) → IsRegular (λ j. mark_at [] j ≡ true) u → IsWeight [] [] u w
-    → (b ≡ true → w ≤ 4000) → (b ≡ false → 4000 < w) → ((b ≡ true) ↔ IsMadeFor (pattern_in explicit t))
-alone_exact explicit t u is w b alone weighs light heavy =
+pub alone_exact : (x : InfoTree) (explicit : Bool) (t u : Tree) → x ≡ analysis explicit t → u ≡ t → (b : Bool) → IsRegular (λ j. mark_at [] j ≡ true) u
+    → (b ≡ true → (facts_in [] x).weight ≤ 4000) → (b ≡ false → 4000 < (facts_in [] x).weight) → ((b ≡ true) ↔ IsMadeFor (pattern_in explicit t))
+alone_exact x explicit t u is same b alone light heavy =
     let groups = (pattern_in explicit t).groups in
-    let plain : IsRegular NoCall t = subst (IsRegular NoCall) is (regular_into (λ j. mark_at [] j ≡ true) NoCall (λ j e. true≢false (sym e)) u alone) in
+    let plain : IsRegular NoCall t = subst (IsRegular NoCall) same (regular_into (λ j. mark_at [] j ≡ true) NoCall (λ j e. true≢false (sym e)) u alone) in
     let regular = regular_into NoCall (IsCallable groups (greatest_nesting (length groups))) (λ j h. absurd h) t plain in
-    by_weight (IsMadeFor (pattern_in explicit t)) b w (written_weight groups t)
-    (weighs [] (λ j. 1) no_sizes no_weights
-    ∙ ap (λ v. min unbounded (weight_with [] (λ j. 1) v)) is
-    ∙ ap (min unbounded) (same_weight [] groups (λ j. 1) (call_weight groups (greatest_nesting (length groups))) t plain))
+    by_weight (IsMadeFor (pattern_in explicit t)) b (facts_in [] x).weight (written_weight groups t)
+    ((alone_known_at x explicit t is).weight
+    ∙ ap (min unbounded) (same_weight groups groups (λ j. 1) (call_weight groups (greatest_nesting (length groups))) t plain))
     light heavy (made_for explicit t regular) (made_light explicit t)
 
 -- where a tree is not regular without calls, it has some

@@ -38,6 +38,8 @@ pub mod PartLemmas
 pub mod BuildLemmas
 pub mod CallWeightLemmas
 pub mod DepthLemmas
+pub mod FactLemmas
+pub mod FactCodeLemmas
 pub mod MarkLemmas
 pub mod CalleeLemmas
 pub mod TranslationLemmas

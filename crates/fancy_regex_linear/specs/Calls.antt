@@ -1,9 +1,8 @@
 -- Calls of groups that are written out in place: which may be, what they weigh, and what they become.
-use Rattle.std.specs.Prelude.{◌≡◌, ◌<◌, ℕ, zero, suc, ◌+◌, ◌*◌, max, min, Bool, true, List, length, slice_get, Option, Some, None}
+use Rattle.std.specs.Prelude.{◌≡◌, ◌<◌, ℕ, zero, suc, ◌+◌, ◌*◌, max, min, Bool, List, length, slice_get, Option, Some, None}
 use Rattle.fancy_regex_tree.specs.Tree.{Tree, Trees, Text, concat, alt, group, look_around, repeat, atomic_group, conditional, subroutine_call, no_trees, more_trees}
 use Rattle.fancy_regex_tree.specs.Bounds.{depth as tree_depth}
 use Rattle.fancy_regex_meaning.specs.Groups.{Pattern}
-use Rattle.fancy_regex_info.specs.AnalysisRelations.{mark_at}
 use Rattle.fancy_regex_info.specs.Views.{pattern_in}
 use Rattle.fancy_regex_meaning.specs.Sizes.{target, bound_of, may_be_empty, repeat_weight, branch_gaps}
 use Rattle.fancy_regex_linear.specs.Plain.{IsRegular, classes, re_of}
@@ -33,10 +32,6 @@ module _ (groups : List Tree) where
   unfoldable pub IsCallable : ℕ → ℕ → Type 0
   IsCallable zero j = ⊥
   IsCallable (suc depth) j = OfBody (IsRegular (IsCallable depth)) (target groups j)
-
-  -- the same, where those of the marked groups can be in its body
-  abbrev pub IsCallableBy : List Bool → ℕ → Type 0
-  IsCallableBy marks j = OfBody (IsRegular (λ i. mark_at marks i ≡ true)) (target groups j)
 
   -- The tree with its calls written out is regular. A call that recurs has no such form.
   abbrev pub IsWrittenOut : Tree → Type 0

@@ -11,7 +11,7 @@ pub mod Starts
 pub mod Plain
 pub mod SettingView
 pub mod Calls
-pub mod CallWeights
+pub mod Facts
 pub mod PlainFact
 pub mod Easy
 pub mod EasyPatterns

@@ -18,6 +18,7 @@ mod copy;
 mod easy;
 mod emit;
 mod emit_both;
+mod facts;
 mod first;
 mod frame;
 mod memory;

@@ -1,19 +1,15 @@
 //! The states of patterns with parts.
 
-ghost use Rattle.std.specs.Prelude.{◌≡◌, ◌↔◌, ◌<◌, ◌≤◌, true, false, Bool, min, map, IfErr, IfOk, IfSome, IsSome};
+ghost use Rattle.std.specs.Prelude.{◌≡◌, ◌↔◌, ◌<◌, ◌≤◌, true, false, Bool, IfErr, IfOk, IfSome, IsSome};
 ghost use Rattle.fancy_regex_tree.specs.Tree.{Tree, tree_of};
-ghost use Rattle.fancy_regex_meaning.specs.Sizes.{unbounded};
-ghost use Rattle.fancy_regex_info.specs.Views.{body_tree};
-ghost use Rattle.fancy_regex_linear.specs.Calls.{IsWrittenOut, written_weight as weight_is};
 
 use crate::build::{Translator, is_regular};
-use crate::calls::{call_weights, callable_groups, weight_of};
 use crate::emit::emit;
+use crate::facts::{facts_of, known_calls};
 use crate::state::add;
 use fancy_regex_class::CharClassMatcher;
-use fancy_regex_info::{CompileError, CompileOptions, Info, group_call_sizes, groups_of};
+use fancy_regex_info::{CompileError, CompileOptions, Info, groups_of};
 use fancy_regex_states::State;
-use fancy_regex_tree::Expr;
 use std::alloc::{AllocError, Global};
 
 /// The greatest weight of a pattern that becomes states with parts.
@@ -39,31 +35,6 @@ fn is_light(weight: u64) -> bool
     weight <= GREATEST_WEIGHT
 }
 
-/// Whether the tree with its calls written out is regular, where the groups have these bodies. The error is want of memory.
-fn is_written_out(alloc: Global, expr: &Expr, bodies: &[&Expr]) -> Result<bool, AllocError>
-    ensures { IfOk result (λ regular. (regular ≡ true) ↔ IsWrittenOut (map body_tree bodies.now) (tree_of expr.now)) }
-{
-    let all = vec![in alloc; true; bodies.len()]?;
-    let possible = is_regular(expr, &all);
-    if !possible {
-        return Ok(false);
-    }
-    let callable = callable_groups(alloc, bodies)?;
-    let regular = is_regular(expr, &callable);
-    Ok(regular)
-}
-
-/// The weight of the tree, each call counted as the body of its group and twice its depth; it stops at the greatest number of 64 bits. The
-/// error is want of memory.
-fn written_weight(alloc: Global, expr: &Expr, bodies: &[&Expr]) -> Result<u64, AllocError>
-    ensures { IfOk result (λ weight. weight ≡ min unbounded (weight_is (map body_tree bodies.now) (tree_of expr.now))) }
-{
-    let sizes = group_call_sizes(alloc, bodies)?;
-    let weights = call_weights(alloc, bodies, &sizes)?;
-    let weight = weight_of(expr, &sizes, &weights);
-    Ok(weight)
-}
-
 impl RegularStates {
     ghost use Rattle.fancy_regex_linear.specs.Easy.{IsMade};
     ghost use Rattle.fancy_regex_linear.specs.Plain.{IsRegular};
@@ -84,18 +55,16 @@ impl RegularStates {
         ensures calls { IfErr result (λ _. IsRegular (λ j. ⊥) (tree_of (out-Info info.now).expr.now) → ⊥) }
     {
         if is_regular(info.expr, &[]) {
-            let alone = weight_of(info.expr, &[], &[]);
-            let light = is_light(alone);
+            let alone = facts_of(info, &[]);
+            let light = is_light(alone.weight);
             return Ok(light);
         }
-        let explicit = info.start_group() == 0;
-        let bodies = groups_of(alloc, info.expr, explicit)?;
-        let regular = is_written_out(alloc, info.expr, &bodies)?;
-        if !regular {
+        let calls = known_calls(alloc, info)?;
+        let written = facts_of(info, &calls);
+        if !written.is_regular {
             return Ok(false);
         }
-        let weight = written_weight(alloc, info.expr, &bodies)?;
-        let made = is_light(weight);
+        let made = is_light(written.weight);
         Ok(made)
     }
 

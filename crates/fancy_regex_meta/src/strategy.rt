@@ -104,7 +104,21 @@ fn compile_options(options: &RegexOptions, calls: bool) -> CompileOptions
     }
 }
 
-/// The linear-time matcher of a tree that is not easy, where it serves the tree best: one that states with parts would search for too. The
+/// Whether a tree that is not easy is searched by states with parts. The error is want of memory.
+fn has_states(
+    alloc: Global,
+    info: &Info<'_>,
+    options: &RegexOptions,
+) -> std::result::Result<bool, AllocError>
+    ensures { IfOk result (λ has. (t : Tree) → info_of info.now ≡ analysis false t → (has ≡ true ↔ HasStates options.now t)) }
+{
+    if options.find_not_empty {
+        return Ok(false);
+    }
+    Regular::supports(alloc, info)
+}
+
+/// The linear-time matcher of a tree that is not easy, if it has one: it serves best those that states with parts would search for too. The
 /// error is `Memory`.
 fn linear_matcher(
     alloc: Global,
@@ -114,17 +128,12 @@ fn linear_matcher(
 ) -> std::result::Result<Option<Easy>, CompileError>
     ensures matcher { IfOk result (λ found. IfSome found (λ easy. (t : Tree) → info_of info.now ≡ analysis false t
         → IsMatcherFor easy options.now t)) }
-    ensures states { IfOk result (λ found. IfSome found (λ _. (t : Tree) → info_of info.now ≡ analysis false t → HasStates options.now t)) }
     ensures memory { IfErr result (λ error. error ≡ errors.Memory) }
 {
     if options.find_not_empty {
         return Ok(None);
     }
     let wanted = compile_options(options, calls);
-    let supported = Regular::supports(alloc, info)?;
-    if !supported {
-        return Ok(None);
-    }
     match Easy::if_supported(alloc, info, &wanted) {
         Ok(found) => Ok(found),
         Err(CompileError::Memory) => Err(CompileError::Memory),
@@ -181,6 +190,10 @@ fn hard_strategy(
     ensures refused { IfErr result (λ error. (t : Tree) → info_of info.now ≡ analysis false t
         → IsWrittenCause options.now.unicode_mode (pattern_of t) error) }
 {
+    let supported = has_states(alloc, info, options)?;
+    if !supported {
+        return Ok(Strategy::Program { prog, run_options });
+    }
     let matcher = linear_matcher(alloc, info, options, calls)?;
     if let Some(linear) = matcher {
         return Ok(Strategy::Linear { linear, prog });

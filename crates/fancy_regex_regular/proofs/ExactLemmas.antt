@@ -1,17 +1,18 @@
 -- Exactly which patterns are searched by states with parts.
-use Rattle.std.proofs.Common.{◌≡◌, ℕ, ◌<◌, Bool, true, false, List, length, None, refl, sym, subst, ⊎_elim}
+use Rattle.std.proofs.Common.{◌≡◌, ℕ, ◌<◌, Bool, true, false, List, length, None, refl, sym, subst, inl, inr, ⊎_elim}
 use Rattle.fancy_regex_tree.specs.Tree.{Tree}
 use Rattle.fancy_regex_meaning.specs.Groups.{Pattern}
 use Rattle.fancy_regex_class.specs.declared.class.CharClassMatcher.{CharClassMatcher}
+use Rattle.fancy_regex_info.specs.declared.error.CompileError.{CompileError}
 use Rattle.fancy_regex_info.specs.Views.{pattern_in}
 use Rattle.fancy_regex_states.specs.Attempts.{View, NamesBelow}
 use Rattle.fancy_regex_states.specs.First.{state_at}
 use Rattle.fancy_regex_states.specs.declared.state.State.{State}
 use Rattle.fancy_regex_parts.specs.Tables.{AreClosed}
 use Rattle.fancy_regex_linear.specs.Plain.{re_of}
-use Rattle.fancy_regex_linear.specs.RegularStates.{AreRegularStates, IsMadeFor}
+use Rattle.fancy_regex_linear.specs.RegularStates.{AreRegularStates, IsMadeFor, IsMadeOrShort}
 use Rattle.fancy_regex_linear.proofs.RegularStateLemmas.{first_is_final, does_by}
-use Rattle.fancy_regex_regular.specs.Supported.{IsSupported}
+use Rattle.fancy_regex_regular.specs.Supported.{IsSupported, IsSupportedOrShort}
 
 -- nothing can be read
 blind : View
@@ -41,3 +42,6 @@ made_in explicit t is = record { regular = is.regular; light = is.light }
 
 pub supported_in : (explicit : Bool) (t : Tree) → IsMadeFor (pattern_in explicit t) → IsSupported (pattern_in explicit t)
 supported_in explicit t made = record { regular = made.regular; light = made.light }
+
+pub or_short : (explicit : Bool) (t : Tree) (error : CompileError) → IsMadeOrShort (pattern_in explicit t) error → IsSupportedOrShort (pattern_in explicit t) error
+or_short explicit t error why = ⊎_elim (λ made. inl (supported_in explicit t made)) (λ short. inr short) why

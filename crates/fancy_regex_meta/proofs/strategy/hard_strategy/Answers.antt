@@ -1,4 +1,4 @@
-use Rattle.std.proofs.Common.{◌≡◌, false, sym, subst, refl, true≢false}
+use Rattle.std.proofs.Common.{◌≡◌, ◌∙◌, false, sym, subst, refl, true≢false}
 use Rattle.fancy_regex_tree.specs.Tree.{Tree}
 use Rattle.fancy_regex_meaning.specs.Groups.{pattern_of}
 use Rattle.fancy_regex_info.specs.Analysis.{analysis}
@@ -12,7 +12,13 @@ pub returns-in-Some-clause-runs : goal.returns-in-Some-clause-runs
 returns-in-Some-clause-runs c t is does = ((rw c.in-Some.is at c.in_ok-matcher.ensures.matcher) t is, does.0)
 
 pub returns-in-Some-clause-linear : goal.returns-in-Some-clause-linear
-returns-in-Some-clause-linear c t is = (λ yes. (rw c.in-Some.is at c.in_ok-matcher.ensures.states) t is, λ has. refl)
+returns-in-Some-clause-linear c t is = (λ yes. (c.in_ok-supported.ensures t is).0 c.if-not-supported.false, λ has. refl)
+
+pub returns-then-not-supported-clause-linear : goal.returns-then-not-supported-clause-linear
+returns-then-not-supported-clause-linear c t is = (
+  λ yes. absurd (true≢false (sym yes)),
+  λ states. absurd (true≢false (sym ((c.in_ok-supported.ensures t is).1 states) ∙ c.if-not-supported.true)),
+)
 
 pub returns-in-Some-states-clause-runs : goal.returns-in-Some-states-clause-runs
 returns-in-Some-states-clause-runs c t is does = (

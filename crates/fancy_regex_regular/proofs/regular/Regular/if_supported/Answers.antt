@@ -1,17 +1,13 @@
-use Rattle.std.proofs.Common.{◌≡◌, ◌∙◌, Bool, rules, ℕ, ◌==◌, length, not, sym, subst, ap, arith, true≢false, refl, inl, inr}
+use Rattle.std.proofs.Common.{◌≡◌, ◌∙◌, Bool, rules, ℕ, ◌==◌, length, not, sym, subst, ap, arith, true≢false, refl, inl}
 use Rattle.fancy_regex_tree.specs.Tree.{Tree}
 use Rattle.fancy_regex_info.specs.Analysis.{analysis}
 use Rattle.fancy_regex_info.specs.Infos.{info_of}
 use Rattle.fancy_regex_info.specs.Views.{pattern_in}
 use Rattle.fancy_regex_regular.proofs.BuildLemmas.{groups_are, first_is}
-use Rattle.fancy_regex_regular.proofs.ExactLemmas.{entry_inside, states_closed, made_in}
+use Rattle.fancy_regex_regular.proofs.ExactLemmas.{entry_inside, states_closed, made_in, supported_in, or_short}
 use Rattle.fancy_regex_regular.specs.Continues.{AskNoPlace}
 use Rattle.fancy_regex_regular.specs.Supported.{IsSupportedOrShort}
 use Rattle.fancy_regex_info.specs.declared.error.CompileError.{CompileError}
-use Rattle.fancy_regex_info.specs.declared.error.CompileError.TheVariants.{Memory}
-use Rattle.fancy_regex_linear.specs.Plain.{IsRegular}
-use Rattle.fancy_regex_linear.proofs.ServedLemmas.{info_is_of}
-use Rattle.fancy_regex_linear.proofs.TranslationLemmas.{tree_is}
 use Rattle.fancy_regex_regular.proofs.regular.Regular.if_supported.Goals as goal
 
 pub invariant_of-result-clause-right : goal.invariant_of-result-clause-right
@@ -41,7 +37,7 @@ returns-in-Some-built-clause-made c = λ explicit t is.
 
 pub returns-in-Some-built-clause-exact : goal.returns-in-Some-built-clause-exact
 returns-in-Some-built-clause-exact c explicit t is =
-    (λ some. (c.in_ok-supported.ensures.exact explicit t is).0 c.if-not-supported.false, λ supported. refl)
+    (λ some. supported_in explicit t (((rw c.in-Some.is at c.in_ok-found.ensures.exact) explicit t is).0 refl), λ supported. refl)
 
 pub returns-in-None-clause-exact : goal.returns-in-None-clause-exact
 returns-in-None-clause-exact c explicit t is =
@@ -62,31 +58,14 @@ returns-in_default-clause-exact c explicit t is = (
       (made_in explicit t supported)))),
 )
 
-pub returns-then-not-supported-clause-exact : goal.returns-then-not-supported-clause-exact
-returns-then-not-supported-clause-exact c explicit t is =
-    (λ some. absurd (true≢false (sym some)), λ supported. absurd (true≢false (sym ((c.in_ok-supported.ensures.exact explicit t is).1 supported) ∙ c.if-not-supported.true)))
-
 pub returns-in_err-found-clause-only : goal.returns-in_err-found-clause-only
 returns-in_err-found-clause-only c =
-    let only : (error : CompileError) (explicit : Bool) (t : Tree) → info_of c.args.info.now ≡ analysis explicit t → IsSupportedOrShort (pattern_in explicit t) error =
-    λ error explicit t is. inl ((c.in_ok-supported.ensures.exact explicit t is).0 c.if-not-supported.false) in
+    let only : (explicit : Bool) (t : Tree) → info_of c.args.info.now ≡ analysis explicit t → IsSupportedOrShort (pattern_in explicit t) c.in_err-found.field-0.0 =
+    λ explicit t is. or_short explicit t c.in_err-found.field-0.0 (c.in_err-found.ensures.only explicit t is) in
     search rules
 
 pub returns-in_err-built-clause-only : goal.returns-in_err-built-clause-only
 returns-in_err-built-clause-only c =
     let only : (error : CompileError) (explicit : Bool) (t : Tree) → info_of c.args.info.now ≡ analysis explicit t → IsSupportedOrShort (pattern_in explicit t) error =
-    λ error explicit t is. inl ((c.in_ok-supported.ensures.exact explicit t is).0 c.if-not-supported.false) in
-    search rules
-
--- where it is not known whether the pattern is supported, there is no memory, and the tree has calls
-pub returns-in_err-supported-clause-only : goal.returns-in_err-supported-clause-only
-returns-in_err-supported-clause-only c =
-    let only : (error : CompileError) → error ≡ Memory → (explicit : Bool) (t : Tree) → info_of c.args.info.now ≡ analysis explicit t
-    → IsSupportedOrShort (pattern_in explicit t) error =
-    λ error short explicit t is.
-    inr (
-      short,
-      λ p. c.in_err-supported.ensures.calls
-          (subst (IsRegular (λ j. ⊥)) (sym ((info_is_of c.args.info.now explicit t is).tree ∙ sym (tree_is explicit t))) p),
-    ) in
+    λ error explicit t is. inl (supported_in explicit t (((rw c.in-Some.is at c.in_ok-found.ensures.exact) explicit t is).0 refl)) in
     search rules
