@@ -1,7 +1,7 @@
 //! What is known of the nodes of an analyzed tree where calls of its groups are written out in place: whether they are regular then, and
 //! how heavy. One walk over the tree finds it for all groups too, by what is known of calls that nest one level less deep.
 
-ghost use Rattle.std.specs.Prelude.{◌≡◌, ◌<◌, ◌++◌, ◌∷◌, [], List, true, ◌&&◌, ◌*◌, ◌-◌, map, min, length, IfOk, OnOk, IsTrue, ◌==◌, if◌then◌else◌};
+ghost use Rattle.std.specs.Prelude.{◌≡◌, ◌++◌, ◌∷◌, [], List, ◌*◌, ◌-◌, map, min, length, IfOk, OnOk, IsTrue, ◌==◌, if◌then◌else◌};
 ghost use Rattle.fancy_regex_tree.specs.Tree.{tree_of};
 ghost use Rattle.fancy_regex_meaning.specs.Sizes.{unbounded};
 ghost use Rattle.fancy_regex_info.specs.Infos.{infos, info_of, properties_in};
