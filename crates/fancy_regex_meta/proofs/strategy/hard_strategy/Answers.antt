@@ -39,8 +39,8 @@ returns-in-None-clause-linear c t is = (
 pub returns-in_err-matcher-clause-refused : goal.returns-in_err-matcher-clause-refused
 returns-in_err-matcher-clause-refused c =
     let o = c.args.options.now in
-    gives c.from_residual.result c.in_err-matcher.field-0.0
-    (λ cause. (t : Tree) → info_of c.args.info.now ≡ analysis false t → IsWrittenCause o.unicode_mode (pattern_of t) cause) c.from_residual.ensures.1
+    gives c.from_residual-in_err-matcher.result c.in_err-matcher.field-0.0
+    (λ cause. (t : Tree) → info_of c.args.info.now ≡ analysis false t → IsWrittenCause o.unicode_mode (pattern_of t) cause) c.from_residual-in_err-matcher.ensures.1
     (λ t is. subst (IsWrittenCause o.unicode_mode (pattern_of t)) (sym c.in_err-matcher.ensures.memory) tt)
 
 pub returns-in_err-states-clause-refused : goal.returns-in_err-states-clause-refused

@@ -1,4 +1,4 @@
-use Rattle.std.proofs.Common.{true≢false, sym, ◌∙◌}
+use Rattle.std.proofs.Common.{false, true≢false, sym, ◌∙◌}
 use Rattle.fancy_regex_linear.proofs.BuildLemmas.{if_ok}
 use Rattle.fancy_regex_meta.proofs.strategy.has_states.Goals as goal
 
