@@ -1,7 +1,6 @@
 //! The calls that are being inlined, and how many of them are calls of each group.
 
 ghost use Rattle.std.specs.Prelude.{◌≡◌, ◌+◌, ◌-◌, ◌<◌, ℕ, List, [], ◌∷◌, ◌++◌, length, take, true, OnOk, OnErr};
-ghost use Rattle.std.specs.List.{Contains};
 ghost use Rattle.fancy_regex_meaning.specs.Ways.{is_at_call_limit};
 ghost use Rattle.fancy_regex_compiler.specs.Opened.{OpenGroups, AreCounts, if_full, full_groups as groups_at_limit};
 
@@ -55,9 +54,9 @@ impl OpenCalls {
         }
     }
 
-    /// The groups of which as many calls are open as may be.
+    /// The groups of which as many calls are open as may be, in the order in which they reached that number.
     pub fn full_groups(&self) -> &[usize]
-        ensures { (group : ℕ) → is_at_call_limit self.now.items group ≡ true → Contains result.now group }
+        ensures { result.now ≡ groups_at_limit self.now.items }
     {
         &self.full
     }

@@ -1,5 +1,7 @@
-use Rattle.std.proofs.Common.{◌+◌, take, get_or}
+use Rattle.std.proofs.Common.{◌+◌, take, get_or, subst, sym}
 use Rattle.std.proofs.lemmas.List.{take_more}
+use Rattle.std.specs.List.{Contains}
+use Rattle.fancy_regex_compiler.proofs.OpenedLemmas.{is_full_group}
 use Rattle.fancy_regex_compiler.proofs.CalledTextLemmas.{none_has_none, none_has_more, none_has_all, free_unless}
 use Rattle.fancy_regex_compiler.proofs.called_texts.is_full.Goals as goal
 
@@ -16,5 +18,6 @@ loop-group-preserved c =
 pub returns : goal.returns
 returns c _ =
     let full = c.full_groups-full.result.now in
-    free_unless c.args.lengths.now c.args.most c.args.opened.now.items full c.full_groups-full.ensures
+    free_unless c.args.lengths.now c.args.most c.args.opened.now.items full
+    (λ group limit. subst (λ l. Contains l group) (sym c.full_groups-full.ensures) (is_full_group c.args.opened.now.items group limit))
     (none_has_all c.args.lengths.now c.args.most full c.loop-group.group-index c.loop-group-test.false c.loop-group.invariant)

@@ -1,6 +1,8 @@
-use Rattle.std.proofs.Common.{◌≡◌, ℕ, ◌≤◌, ◌+◌, take, get_or, Some, ap, ◌∙◌, arith}
+use Rattle.std.proofs.Common.{◌≡◌, ℕ, ◌≤◌, ◌+◌, take, get_or, Some, ap, subst, sym, ◌∙◌, arith}
 use Rattle.std.specs.Prelude.{slice_get}
 use Rattle.std.proofs.lemmas.List.{take_more}
+use Rattle.std.specs.List.{Contains}
+use Rattle.fancy_regex_compiler.proofs.OpenedLemmas.{is_full_group}
 use Rattle.fancy_regex_compiler.proofs.CalledTextLemmas.{none_has_none, none_has_more, none_has_all, free_unless}
 use Rattle.fancy_regex_compiler.proofs.InlinedLemmas.{known_room}
 use Rattle.fancy_regex_compiler.proofs.inlined_groups.is_full.Goals as goal
@@ -21,5 +23,6 @@ loop-group-preserved c =
 pub returns : goal.returns
 returns c _ =
     let full = c.full_groups-full.result.now in
-    free_unless c.args.rooms.now 0 c.args.opened.now.items full c.full_groups-full.ensures
+    free_unless c.args.rooms.now 0 c.args.opened.now.items full
+    (λ group limit. subst (λ l. Contains l group) (sym c.full_groups-full.ensures) (is_full_group c.args.opened.now.items group limit))
     (none_has_all c.args.rooms.now 0 full c.loop-group.group-index c.loop-group-test.false c.loop-group.invariant)
