@@ -6,5 +6,6 @@ pub mod Readers
 pub mod Walks
 pub mod Ahead
 pub mod LeadingLoops
+pub mod Backrefs
 pub mod RepeatedCharacters
 pub mod Passing

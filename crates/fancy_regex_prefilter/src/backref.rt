@@ -1,10 +1,11 @@
 //! Back references: whether the text of a group occurs again at a position.
 
-ghost use Rattle.std.specs.Prelude.{◌≡◌, ◌+◌, ◌-◌, ◌≤◌, ◌<◌, chars, IsCharBoundary, IsTrue, Some, None, if◌then◌else◌, ◌==◌};
+ghost use Rattle.std.specs.Prelude.{◌≡◌, ◌+◌, ◌-◌, ◌≤◌, ◌<◌, chars, false, IsCharBoundary, IsTrue, Some, None, if◌then◌else◌, ◌==◌};
 ghost use lib.Pointwise.{pointwise};
 ghost use Rattle.fancy_regex_class.specs.Classes.{folded};
 ghost use Rattle.fancy_regex_meaning.specs.Ways as ways;
 ghost use Rattle.fancy_regex_program.specs.Machine as machine;
+ghost use Rattle.fancy_regex_prefilter.specs.Backrefs.{Differ};
 ghost use Rattle.fancy_regex_prefilter.specs.RunContexts.{setting_of_run};
 
 use crate::run_context::RunContext;
@@ -21,6 +22,21 @@ pub fn same_bytes(
     requires { next ≡ position + (end - start) }
     ensures { result ≡ ways.same_bytes (setting_of_run run.now) start end position next }
 {
+    are_same_bytes(run, start, end, position, next)
+}
+
+/// Like `same_bytes`, where a call would take longer than the comparison.
+#[inline(always)]
+pub(crate) fn are_same_bytes(
+    run: &RunContext<'_>,
+    start: usize,
+    end: usize,
+    position: usize,
+    next: usize,
+) -> bool
+    requires { next ≡ position + (end - start) }
+    ensures { result ≡ ways.same_bytes (setting_of_run run.now) start end position next }
+{
     let text = run.text.as_bytes();
     if next > text.len() {
         return false;
@@ -28,9 +44,44 @@ pub fn same_bytes(
     if start >= end {
         return true;
     }
+    if begins_otherwise(run, start, end, position, next) {
+        return false;
+    }
     match text.get(start..end) {
         Some(taken) => taken == &text[position..next],
         None => false,
+    }
+}
+
+/// Whether another byte stands at `position` than at `start`, so that the bytes in `start..end`, of which there are some, are not those in
+/// `position..next`, which has the same length.
+#[inline(always)]
+fn begins_otherwise(
+    run: &RunContext<'_>,
+    start: usize,
+    end: usize,
+    position: usize,
+    next: usize,
+) -> bool
+    requires { next ≡ position + (end - start) }
+    ensures { IsTrue result → ways.same_bytes (setting_of_run run.now) start end position next ≡ false }
+{
+    // Only the proof asks where the second range ends.
+    let _ = next;
+    if start >= end {
+        return false;
+    }
+    differ(run.text.as_bytes(), start, position)
+}
+
+/// Whether other bytes stand at these two offsets.
+#[inline(always)]
+fn differ(text: &[u8], one: usize, other: usize) -> bool
+    ensures { IsTrue result → Differ text.now one other }
+{
+    match (text.get(one), text.get(other)) {
+        (Some(a), Some(b)) => *a != *b,
+        _ => false,
     }
 }
 
