@@ -229,7 +229,7 @@ impl Easy {
             entry,
             &translator.matchers,
             options,
-            wanted_table(has_table, before.is_some(), &passing),
+            wanted_table(has_table, &before, &passing),
         )?;
         Ok(Easy {
             states,
@@ -319,11 +319,11 @@ impl Easy {
             return Ok(None);
         }
         if !input.anchored {
-            if self.before.is_some() {
-                return self.find_by_before(text, input, steps, memory);
-            }
             if self.has_needed() {
                 return self.find_by_needed(text, input, steps, memory);
+            }
+            if self.before.is_some() {
+                return self.find_by_before(text, input, steps, memory);
             }
             if let Some(it) = self.table_search(text, input) {
                 // Read so that the proof knows that the counter is a `u64`, which no look lowers.
@@ -632,14 +632,14 @@ fn passing_of(
 }
 
 /// How common starts are for a table, if one is wanted: those that are passed over by the characters before them count as rare.
-fn wanted_table(is_wanted: bool, has_before: bool, passing: &Passing) -> Option<Starts> {
+fn wanted_table(is_wanted: bool, before: &Option<Passing>, passing: &Passing) -> Option<Starts> {
     if !is_wanted {
         return None;
     }
-    if has_before {
-        return Some(Starts { per_million: 0 });
+    match before {
+        Some(before) => Some(before.starts.or_rare()),
+        None => Some(passing.starts),
     }
-    Some(passing.starts)
 }
 
 /// The table of the states, if it is wanted and the first match is. The error is want of memory.

@@ -7,7 +7,7 @@ use Rattle.std.proofs.lemmas.Bool.{ltb-true, ltb-false, cases_lt, false≢true}
 use Rattle.std.proofs.lemmas.List.Sums.{prefix_len_passes, prefix_len-le-length}
 use Rattle.std.proofs.lemmas.Simd.{trailing_mask_l, get_or-chunk, length-chunk, length-zip2, get_or-zip2}
 use Rattle.fancy_regex_stops.specs.Gaps.{is_zero, is_more, lesser, greater, limit_gap, gap_of, gap_in, pair_gap, wrapped}
-use Rattle.fancy_regex_stops.specs.Stops.{Covers, CoversShort, IsMarked, IsShort, IsPairAt, IsBeforeMarked, IsSingle}
+use Rattle.fancy_regex_stops.specs.Stops.{Covers, CoversShort, IsMarked, IsShort, IsPairAt, IsBeforeMarked, IsSingle, IsShortPairAt}
 use Rattle.fancy_regex_stops.specs.declared.stops.Stops.{Stops}
 
 -- a choice of each lane by a comparison
@@ -175,6 +175,23 @@ pair_says stops others marks wide other_marks bytes i covers covers_others insid
     (mark_says others other_marks false covers_others next second))
     (one_more (gap_in stops byte) (gap_in others next) (both_more _ _ more).1))
     (λ (other : 128 ≤ byte). inl (inr (other, covers.others (omega (arith, other, below)))))
+    (cases_lt byte 128)
+
+-- the same where the characters of up to three bytes alone are passed over beside ASCII characters
+pub short_pair_says : (stops others : Stops) (marks : List Bool) (short : Bool) (other_marks : List Bool) (bytes : List ℕ) (i : ℕ) → CoversShort stops marks short
+    → Covers others other_marks true → i + 1 < length bytes
+    → 0 < pair_gap stops others (slice_index_or bytes i 0) (slice_index_or bytes (i + 1) 0) → IsShortPairAt bytes marks short other_marks i
+short_pair_says stops others marks short other_marks bytes i covers covers_others inside more =
+    let byte : ℕ = slice_index_or bytes i 0 in
+    let next : ℕ = slice_index_or bytes (i + 1) 0 in
+    let most : stops.limit ≤ 240 = covers.most in
+    let below : byte < stops.limit = limit_more stops.limit byte (omega (arith, most)) (both_more _ _ more).0 in
+    ⊎_elim
+    (λ (ascii : byte < 128).
+    ⊎_elim (λ (first : 0 < gap_in stops byte). inl (inl (ascii, covers.ascii byte ascii first)))
+    (λ (second : 0 < gap_in others next). inr (record { inside = inside; ascii = ascii; next = mark_says others other_marks true covers_others next second }))
+    (one_more (gap_in stops byte) (gap_in others next) (both_more _ _ more).1))
+    (λ (other : 128 ≤ byte). inl (inr (other, omega (arith, below, most), covers.others (omega (arith, other, below)))))
     (cases_lt byte 128)
 
 lesser_more : (a b : ℕ) → 0 < a → 0 < b → 0 < lesser a b

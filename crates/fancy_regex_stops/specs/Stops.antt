@@ -49,3 +49,13 @@ pub record IsBeforeMarked (bytes : List ℕ) (others : List Bool) (i : ℕ) : Ty
 -- a byte stands at i that is marked, or is before one that is marked by the others
 abbrev pub IsPairAt : List ℕ → List Bool → Bool → List Bool → ℕ → Type 0
 IsPairAt bytes marks wide others i = IsMarkedAt bytes marks wide i ⊎ IsBeforeMarked bytes others i
+
+-- the byte of an ASCII character stands at i that is before one that is marked by the others, or before one that is not ASCII
+pub record IsBeforeOther (bytes : List ℕ) (others : List Bool) (i : ℕ) : Type 0 where
+  pub inside : i + 1 < length bytes
+  pub ascii : slice_index_or bytes i 0 < 128
+  pub next : IsMarkedAt bytes others true (i + 1)
+
+-- a byte stands at i that is marked, or one from 128 to 239, if these are passed over, or one before one that is marked by the others
+abbrev pub IsShortPairAt : List ℕ → List Bool → Bool → List Bool → ℕ → Type 0
+IsShortPairAt bytes marks short others i = IsShortAt bytes marks short i ⊎ IsBeforeOther bytes others i

@@ -2,7 +2,7 @@
 
 ghost use Rattle.std.specs.Prelude.{◌≡◌, ◌≤◌, ◌<◌, ℕ, List, Bool, true, false, IfSome, length, slice_index_or};
 ghost use Rattle.fancy_regex_stops.specs.Gaps.{gap_in};
-ghost use Rattle.fancy_regex_stops.specs.Stops.{Covers, CoversShort, AreCovered, IsMarkedAt, IsShortAt, IsPairAt, IsSingle};
+ghost use Rattle.fancy_regex_stops.specs.Stops.{Covers, CoversShort, AreCovered, IsMarkedAt, IsShortAt, IsPairAt, IsSingle, IsShortPairAt};
 
 use crate::byte_range::{ByteRange, gap_below};
 use crate::lanes::{LANES, all, has_zero, lanes_to_zero, load};
@@ -134,6 +134,8 @@ impl Stops {
         ensures range { (from ≤ result) × (result ≤ length bytes.now) }
         ensures passed { (marks others : List Bool) (wide : Bool) → Covers self.now marks wide → Covers second.now others false
             → (i : ℕ) → from ≤ i → i < result → IsPairAt bytes.now marks wide others i }
+        ensures short { (marks others : List Bool) (short : Bool) → CoversShort self.now marks short → Covers second.now others true
+            → (i : ℕ) → from ≤ i → i < result → IsShortPairAt bytes.now marks short others i }
     {
         let stops = StopLanes::of(self);
         let seconds = StopLanes::of(second);

@@ -18,4 +18,6 @@ pub mod QuestionLemmas
 pub mod BlockLemmas
 pub mod WideLemmas
 pub mod MarkLemmas
+pub mod StrayLemmas
+pub mod MisfitLemmas
 pub mod NeededLemmas

@@ -1,5 +1,5 @@
 -- Marks of classes and of characters, and cells that are replaced.
-use Rattle.std.proofs.Common.{◌≡◌, ◌∙◌, ◌≢◌, inl, inr, ℕ, zero, suc, ◌+◌, ◌<◌, ◌≤◌, Bool, true, false, List, length, Some, refl, sym, ap, subst, arith, ⊎_elim, get_or, get_or-set_other, get_or-set_same, length-set, replicate}
+use Rattle.std.proofs.Common.{◌≡◌, ◌∙◌, ◌≢◌, inl, inr, ℕ, zero, suc, ◌+◌, ◌<◌, ◌≤◌, Bool, true, false, List, length, Some, refl, sym, ap, subst, arith, ⊎_elim, get_or, get_or-set_other, get_or-set_same, get_or_past, length-set, replicate}
 use Rattle.std.specs.Prelude.{set}
 use Rattle.std.proofs.lemmas.Bool.{cases_lt, false≢true}
 use Rattle.std.proofs.lemmas.Option.{slice_get_within, get_or_from_slice_get, slice_get-get_or}
@@ -63,3 +63,18 @@ pub all_as : (n : ℕ) (mark : Bool) (k : ℕ) → slice_index_or (replicate n m
 all_as zero mark k e = absurd (false≢true e)
 all_as (suc n) mark zero e = e
 all_as (suc n) mark (suc k) e = all_as n mark k e
+
+-- marks that stay where one is added
+pub mark_kept : (marks : List Bool) (k i : ℕ) → k < length marks → get_or marks i false ≡ true → get_or (set marks k true) i false ≡ true
+mark_kept marks k i within is =
+    same_or_other i k (get_or (set marks k true) i false ≡ true)
+    (λ (same : i ≡ k). ap (λ (j : ℕ). get_or (set marks k true) j false) same ∙ get_or-set_same marks k true false within)
+    (λ (other : i ≢ k). get_or-set_other marks k i true false other ∙ is)
+
+-- the marks of some are among those of others
+pub among_marks : (used marked : List Bool) → length used ≡ 256 → ((k : ℕ) → k < 256 → get_or used k false ≡ true → get_or marked k false ≡ true)
+    → (k : ℕ) → get_or used k false ≡ true → get_or marked k false ≡ true
+among_marks used marked long all k is =
+    ⊎_elim (λ (less : k < 256). all k less is)
+    (λ (over : 256 ≤ k). absurd (false≢true (sym (get_or_past used k false (omega (arith, over, long))) ∙ is)))
+    (cases_lt k 256)

@@ -10,6 +10,7 @@ mod flat;
 mod leaf_set;
 mod maker;
 mod needed;
+mod needed_choice;
 mod needed_maker;
 mod pattern;
 mod question;
@@ -24,7 +25,7 @@ mod wide;
 mod wide_maker;
 
 pub use needed::Onset;
-pub use needed_maker::weight;
+pub use needed_choice::weight;
 pub use pattern::Starts;
 pub use sign::Sign;
 pub use table::{Passed, Table};

@@ -1,28 +1,20 @@
-//! How the characters are found that each match needs.
+//! How the characters in a row are found that each match needs.
 
-ghost use Rattle.std.specs.Prelude.{◌≡◌, ◌<◌, ◌≤◌, ◌+◌, ℕ, true, false, IfOk, IfSome, slice_index_or};
-ghost use Rattle.fancy_regex_table.specs.Needed.{AreEffects, AreEnded, AreOfClasses, HasBegin, HasCell, IsAmong, IsKept, IsNeededOf, IsOneOf, IsReset, LeadsTo, Resets};
+ghost use Rattle.std.specs.Prelude.{◌≡◌, ◌<◌, ◌≤◌, ◌+◌, ℕ, Some, true, false, IfOk, IfSome, length, slice_get, slice_index_or};
+ghost use Rattle.fancy_regex_stops.specs.Stops.{Covers};
+ghost use Rattle.fancy_regex_table.specs.Wides.{AllShortAre};
+ghost use Rattle.fancy_regex_table.specs.declared.wide.Wide.{Wide as WideValue};
+ghost use Rattle.fancy_regex_table.specs.Needed.{AreEffects, AreEnded, AreOfClasses, AreOthers, HasBegin, HasCell, IsAfter, IsKept, IsKeptWide, IsNeededOf, IsOneOf, IsReached, IsReset, IsResetWide, IsStray, LeadsTo, Resets};
 
 use crate::flat::cell_at;
 use crate::needed::Needed;
+use crate::needed_choice::{NeededString, Reached, string_for};
 use crate::pattern::Starts;
 use crate::row::Cell;
 use crate::rows::FreshRow;
 use crate::wide::Wide;
 use fancy_regex_stops::Stops;
 use std::alloc::{AllocError, Global};
-
-/// The most rows that a search may be in before a character that is needed.
-const MOST_ROWS: usize = 32;
-
-/// How many classes of characters are asked whether matches need them, the rarest ones.
-const MOST_ASKED: usize = 4;
-
-/// A character that is needed is rarer than starts at least by this factor, where a search goes on to it.
-const TIMES_RARER: u32 = 4;
-
-/// How many of a thousand characters the rarest ones are that are weighed.
-const LEAST_WEIGHT: u32 = 2;
 
 /// How many classes are marked.
 const MARKED: usize = 256;
@@ -41,14 +33,18 @@ pub struct CellPlaces<'t> {
 /// What a character of each class does where a search is in one of some rows.
 #[derive(Clone, Copy)]
 struct Effects {
-    /// The search is in one of them afterwards.
+    /// The search is in one of them afterwards, unless the character completes the string.
     kept: [bool; 256],
-    /// No attempt is under way afterwards.
+    /// The search is in one of them afterwards, and the character is of no string.
+    kept_wide: [bool; 256],
+    /// No attempt is under way afterwards, unless the character completes the string.
     reset: [bool; 256],
+    /// No attempt is under way afterwards.
+    reset_wide: [bool; 256],
 }
 
-/// How searches go on to characters that each match needs, if there are some that are rarer than starts. Then a cell that led to a row for
-/// searches that begin says that nothing is under way, so that a pass ends there. The error is want of memory.
+/// How searches go on to characters in a row that each match needs, if there are some that are rarer than starts. Then a cell that led to a
+/// row for searches that begin says that nothing is under way, so that a pass ends there. The error is want of memory.
 pub fn needed_of(
     alloc: Global,
     cells: &mut Vec<Cell>,
@@ -59,42 +55,107 @@ pub fn needed_of(
     ensures needed { IfOk result (λ needed. IfSome needed (IsNeededOf cells.new.items places.now.fresh.now places.now.begins.now
         places.now.classes.now places.now.wide.now)) }
 {
-    let Some(rows) = rows_before_rarest(alloc, cells, places, starts)? else {
+    let Some(string) = string_for(alloc, cells, places, starts)? else {
         return Ok(None);
     };
-    if needed_in(cells, places, &rows).is_none() {
+    let NeededString { classes, reached } = string;
+    if stops_at(places.classes, &classes, 0, false).is_none() {
         return Ok(None);
     }
     end_passes(cells, places.fresh);
-    Ok(needed_in(cells, places, &rows))
+    Ok(needed_in(cells, places, classes, &reached))
 }
 
-/// How searches go on to characters after which they may be in other rows than these.
-fn needed_in(cells: &[Cell], places: &CellPlaces, rows: &[u32]) -> Option<Needed>
+/// The stops of the characters of the class at this place.
+fn stops_at(classes: &[u32; 256], string: &[u32], place: usize, passes: bool) -> Option<Stops> {
+    let others = others_of(classes, string, place);
+    Stops::of_short(&others, passes)
+}
+
+/// How searches go on to characters of these classes, before which they may be in one of these rows.
+fn needed_in(
+    cells: &[Cell],
+    places: &CellPlaces,
+    string: Vec<u32>,
+    reached: &[Reached],
+) -> Option<Needed>
     ensures { IfSome result (IsNeededOf cells.now places.now.fresh.now places.now.begins.now places.now.classes.now places.now.wide.now) }
 {
-    if !all_begin(places, rows) {
+    if !all_begin(places, reached) {
         return None;
     }
-    let effects = effects_of(cells, places, rows);
-    let passes_short = places.wide.all_short_are(&effects.kept);
-    let resets_short = places.wide.all_short_are(&effects.reset);
-    let marked = marks_of(places.classes, &effects.kept);
-    let stops = Stops::of_short(&marked, passes_short)?;
+    let effects = effects_of(cells, places, &string, reached);
+    if !ascii_are(places.classes, &effects.kept) {
+        return None;
+    }
+    let used = places.wide.short_classes();
+    let passes_short = all_short_are(&used, &effects.kept_wide);
+    let resets_short = all_short_are(&used, &effects.reset_wide);
+    let others = others_of(places.classes, &string, 0);
+    let next_others = others_of(places.classes, &string, 1);
+    let stops = Stops::of_short(&others, passes_short)?;
+    let next_stops = next_stops_of(&string, &next_others);
     Some(Needed {
-        marked,
+        string,
+        others,
+        next_others,
         passes_short,
         stops,
+        next_stops,
         resets: resets_of(places.classes, &effects.reset, resets_short),
     })
 }
 
-/// Whether the row is one of these.
-fn is_among(rows: &[u32], row: u32) -> bool
-    ensures { result ≡ true → IsAmong rows.now row }
+/// The stops of the second characters, if there is a second one, where the characters that are not among them are marked.
+fn next_stops_of(string: &[u32], next_others: &[bool; 128]) -> Option<Stops>
+    ensures covers { IfSome result (λ stops. Covers stops next_others.now true) }
+    ensures long { IfSome result (λ _. 1 < length string.now) }
 {
-    for i in 0..rows.len() {
-        if rows[i] == row {
+    if string.len() > 1 {
+        return Stops::of(next_others, true);
+    }
+    None
+}
+
+/// Whether the class at this place of the string is this one.
+pub fn is_at(string: &[u32], place: usize, class: u32) -> bool
+    ensures yes { result ≡ true → slice_get string.now place ≡ Some class }
+{
+    place < string.len() && string[place] == class
+}
+
+/// How many characters of the string stand before the place after a character of this class, where so many stand before the character.
+pub fn matched_after(string: &[u32], matched: usize, class: u32) -> usize
+    ensures { IsAfter string.now matched class result }
+{
+    if is_at(string, matched, class) {
+        return matched + 1;
+    }
+    if is_at(string, 0, class) {
+        return 1;
+    }
+    0
+}
+
+/// Whether no character of the string is of this class, and the string has characters.
+fn is_stray(string: &[u32], class: u32) -> bool
+    ensures { result ≡ true → IsStray string.now class }
+{
+    for i in 0..string.len() {
+        if string[i] == class {
+            return false;
+        }
+    }
+    !string.is_empty()
+}
+
+/// Whether the row is one of these, with so many characters of the string before it.
+pub fn is_reached(reached: &[Reached], row: u32, matched: usize) -> bool
+    ensures { result ≡ true → IsReached reached.now row matched }
+{
+    for i in 0..reached.len() {
+        let it = reached[i];
+        if it.row == row && it.matched == matched {
             return true;
         }
     }
@@ -114,13 +175,32 @@ fn is_one_of(fresh: &[FreshRow], row: u32) -> bool
     false
 }
 
-/// Whether the cell leads to one of these rows, or says that nothing is under way.
-fn leads_to(cell: Cell, rows: &[u32]) -> bool
-    ensures { result ≡ true → LeadsTo rows.now cell }
+/// Whether a search that begins after a character of this class is in one of these rows, with so many characters of the string before it.
+fn begins_in(begins: &[Option<u32>], class: usize, reached: &[Reached], matched: usize) -> bool
+    ensures { result ≡ true → HasBegin begins.now reached.now class matched }
+{
+    if class >= begins.len() {
+        return false;
+    }
+    match begins[class] {
+        Some(row) => is_reached(reached, row, matched),
+        None => false,
+    }
+}
+
+/// Whether the cell of this class leads to one of these rows, with so many characters of the string before it.
+fn leads_to(
+    cell: Cell,
+    begins: &[Option<u32>],
+    class: u32,
+    reached: &[Reached],
+    matched: usize,
+) -> bool
+    ensures { result ≡ true → LeadsTo begins.now reached.now class matched cell }
 {
     match cell {
-        Cell::Idle => true,
-        Cell::Next { row, .. } => is_among(rows, row),
+        Cell::Idle => begins_in(begins, class as usize, reached, matched),
+        Cell::Next { row, .. } => is_reached(reached, row, matched),
         _ => false,
     }
 }
@@ -136,13 +216,6 @@ fn resets(cell: Cell, fresh: &[FreshRow]) -> bool
     }
 }
 
-/// Whether the cell of this class in this row leads to one of these rows, or says that nothing is under way.
-fn leads_at(cells: &[Cell], class: u32, row: u32, rows: &[u32]) -> bool
-    ensures { result ≡ true → HasCell cells.now (row + class) (LeadsTo rows.now) }
-{
-    leads_to(cell_at(cells, class, row), rows)
-}
-
 /// Whether it leads to a row for searches that begin, or says that nothing is under way.
 fn resets_at(cells: &[Cell], class: u32, row: u32, fresh: &[FreshRow]) -> bool
     ensures { result ≡ true → HasCell cells.now (row + class) (Resets fresh.now) }
@@ -150,68 +223,146 @@ fn resets_at(cells: &[Cell], class: u32, row: u32, fresh: &[FreshRow]) -> bool
     resets(cell_at(cells, class, row), fresh)
 }
 
-/// Whether a row for searches that begin after a character of this class is one of these.
-fn begins_in(begins: &[Option<u32>], class: usize, rows: &[u32]) -> bool
-    ensures { result ≡ true → HasBegin begins.now rows.now class }
-{
-    if class >= begins.len() {
-        return false;
-    }
-    match begins[class] {
-        Some(row) => is_among(rows, row),
-        None => false,
-    }
-}
-
 /// Whether searches that begin after an ASCII character, or at the start of the text, are in one of these rows.
-fn all_begin(places: &CellPlaces, rows: &[u32]) -> bool
-    ensures first { result ≡ true → HasBegin places.now.begins.now rows.now 0 }
+fn all_begin(places: &CellPlaces, reached: &[Reached]) -> bool
+    ensures first { result ≡ true → HasBegin places.now.begins.now reached.now 0 0 }
     ensures ascii { result ≡ true → (c : ℕ) → c < 128
-        → HasBegin places.now.begins.now rows.now (slice_index_or places.now.classes.now c 0) }
+        → HasBegin places.now.begins.now reached.now (slice_index_or places.now.classes.now c 0) 0 }
 {
     for code in 0..128 {
-        if !begins_in(places.begins, places.classes[code] as usize, rows) {
+        if !begins_in(places.begins, places.classes[code] as usize, reached, 0) {
             return false;
         }
     }
-    begins_in(places.begins, 0, rows)
+    begins_in(places.begins, 0, reached, 0)
 }
 
-/// Whether a search that is in one of these rows is in one of them after a character of this class.
-fn keeps(cells: &[Cell], begins: &[Option<u32>], class: u32, rows: &[u32]) -> bool
-    ensures { result ≡ true → IsKept cells.now begins.now rows.now class }
+/// Whether a search that is in one of these rows is in one of them after a character of this class, unless that completes the string.
+fn keeps(
+    cells: &[Cell],
+    begins: &[Option<u32>],
+    string: &[u32],
+    class: u32,
+    reached: &[Reached],
+) -> bool
+    ensures { result ≡ true → IsKept cells.now begins.now reached.now string.now class }
 {
-    for i in 0..rows.len() {
-        if !leads_at(cells, class, rows[i], rows) {
-            return false;
-        }
-    }
-    begins_in(begins, class as usize, rows)
-}
-
-/// Whether no attempt is under way after a character of this class, if the search is in one of these rows.
-fn resets_all(cells: &[Cell], fresh: &[FreshRow], class: u32, rows: &[u32]) -> bool
-    ensures { result ≡ true → IsReset cells.now fresh.now rows.now class }
-{
-    for i in 0..rows.len() {
-        if !resets_at(cells, class, rows[i], fresh) {
+    for i in 0..reached.len() {
+        let it = reached[i];
+        let matched = matched_after(string, it.matched, class);
+        let cell = cell_at(cells, class, it.row);
+        if matched != string.len() && !leads_to(cell, begins, class, reached, matched) {
             return false;
         }
     }
     true
 }
 
+/// Whether each of these rows leads to one of them by this class, with no character of the string before it.
+fn leads_all(cells: &[Cell], begins: &[Option<u32>], class: u32, reached: &[Reached]) -> bool
+    ensures { result ≡ true → IsKeptWide cells.now begins.now reached.now class }
+{
+    for i in 0..reached.len() {
+        let cell = cell_at(cells, class, reached[i].row);
+        if !leads_to(cell, begins, class, reached, 0) {
+            return false;
+        }
+    }
+    true
+}
+
+/// The same as `keeps`, which said `is_kept`, where the character is not ASCII.
+fn keeps_wide(
+    cells: &[Cell],
+    begins: &[Option<u32>],
+    string: &[u32],
+    class: u32,
+    reached: &[Reached],
+    is_kept: bool,
+) -> bool
+    ensures { (is_kept ≡ true → IsKept cells.now begins.now reached.now string.now class) → result ≡ true
+        → IsKeptWide cells.now begins.now reached.now class }
+{
+    if is_stray(string, class) {
+        return is_kept;
+    }
+    leads_all(cells, begins, class, reached)
+}
+
+/// Whether no attempt is under way after a character of this class, if the search is in one of these rows, unless the character completes
+/// the string.
+fn resets_all(
+    cells: &[Cell],
+    fresh: &[FreshRow],
+    string: &[u32],
+    class: u32,
+    reached: &[Reached],
+) -> bool
+    ensures { result ≡ true → IsReset cells.now fresh.now reached.now string.now class }
+{
+    for i in 0..reached.len() {
+        let it = reached[i];
+        let matched = matched_after(string, it.matched, class);
+        if matched != string.len() && !resets_at(cells, class, it.row, fresh) {
+            return false;
+        }
+    }
+    true
+}
+
+/// Whether no attempt is under way after a character of this class, if the search is in one of these rows.
+fn resets_each(cells: &[Cell], fresh: &[FreshRow], class: u32, reached: &[Reached]) -> bool
+    ensures { result ≡ true → IsResetWide cells.now fresh.now reached.now class }
+{
+    for i in 0..reached.len() {
+        if !resets_at(cells, class, reached[i].row, fresh) {
+            return false;
+        }
+    }
+    true
+}
+
+/// The same as `resets_all`, which said `is_reset`, where the character is not ASCII.
+fn resets_wide(
+    cells: &[Cell],
+    fresh: &[FreshRow],
+    string: &[u32],
+    class: u32,
+    reached: &[Reached],
+    is_reset: bool,
+) -> bool
+    ensures { (is_reset ≡ true → IsReset cells.now fresh.now reached.now string.now class) → result ≡ true
+        → IsResetWide cells.now fresh.now reached.now class }
+{
+    if is_stray(string, class) {
+        return is_reset;
+    }
+    resets_each(cells, fresh, class, reached)
+}
+
 /// What a character of each class but the first does, if the search is in one of these rows.
-fn effects_of(cells: &[Cell], places: &CellPlaces, rows: &[u32]) -> Effects
-    ensures { AreEffects cells.now places.now.fresh.now places.now.begins.now rows.now result }
+fn effects_of(cells: &[Cell], places: &CellPlaces, string: &[u32], reached: &[Reached]) -> Effects
+    ensures { AreEffects cells.now places.now.fresh.now places.now.begins.now reached.now string.now result }
 {
     let mut kept = [false; 256];
+    let mut kept_wide = [false; 256];
     let mut reset = [false; 256];
+    let mut reset_wide = [false; 256];
     for class in 1..places.begins.len().min(MARKED) {
-        kept[class] = keeps(cells, places.begins, class as u32, rows);
-        reset[class] = resets_all(cells, places.fresh, class as u32, rows);
+        let number = class as u32;
+        let is_kept = keeps(cells, places.begins, string, number, reached);
+        let is_reset = resets_all(cells, places.fresh, string, number, reached);
+        kept[class] = is_kept;
+        kept_wide[class] = keeps_wide(cells, places.begins, string, number, reached, is_kept);
+        reset[class] = is_reset;
+        reset_wide[class] = resets_wide(cells, places.fresh, string, number, reached, is_reset);
     }
-    Effects { kept, reset }
+    Effects {
+        kept,
+        kept_wide,
+        reset,
+        reset_wide,
+    }
 }
 
 /// Whether the class is marked.
@@ -225,18 +376,59 @@ fn mark_of(by_class: &[bool; 256], class: u32) -> bool
     by_class[class]
 }
 
-/// The marks of ASCII characters, by those of their classes.
-fn marks_of(classes: &[u32; 256], by_class: &[bool; 256]) -> [bool; 128]
-    ensures { AreOfClasses classes.now by_class.now result }
+/// Whether the classes of all ASCII characters are marked.
+fn ascii_are(classes: &[u32; 256], by_class: &[bool; 256]) -> bool
+    ensures { result ≡ true → (c : ℕ) → c < 128 → slice_index_or by_class.now (slice_index_or classes.now c 0) false ≡ true }
+{
+    for code in 0..128 {
+        if !mark_of(by_class, classes[code]) {
+            return false;
+        }
+    }
+    true
+}
+
+/// Whether all classes of the characters below U+10000 that are not ASCII are marked, where these are used, if each has a class.
+fn all_short_are(used: &Option<[bool; 256]>, marked: &[bool; 256]) -> bool
+    ensures { (wide : WideValue) → IfSome used.now (AllShortAre wide) → result ≡ true → AllShortAre wide marked.now }
+{
+    match used {
+        Some(used) => are_among(used, marked),
+        None => false,
+    }
+}
+
+/// Whether each class that is used is marked.
+fn are_among(used: &[bool; 256], marked: &[bool; 256]) -> bool
+    ensures { result ≡ true → (k : ℕ) → slice_index_or used.now k false ≡ true → slice_index_or marked.now k false ≡ true }
+{
+    for class in 0..MARKED {
+        if used[class] && !marked[class] {
+            return false;
+        }
+    }
+    true
+}
+
+/// Whether there is a class at this place of the string, and another than this one.
+fn is_other(string: &[u32], place: usize, class: u32) -> bool
+    ensures { result ≡ true → IsOther string.now place class }
+{
+    place < string.len() && string[place] != class
+}
+
+/// For each ASCII character whether it is of another class than that at this place of the string.
+fn others_of(classes: &[u32; 256], string: &[u32], place: usize) -> [bool; 128]
+    ensures { AreOthers classes.now string.now place result }
 {
     let mut marked = [false; 128];
     for code in 0..128 {
-        marked[code] = mark_of(by_class, classes[code]);
+        marked[code] = is_other(string, place, classes[code]);
     }
     marked
 }
 
-/// The same of all bytes: this mark for those that are not of ASCII characters.
+/// The marks of all bytes, by those of the classes of ASCII characters: this mark for those that are not of ASCII characters.
 fn resets_of(classes: &[u32; 256], by_class: &[bool; 256], others: bool) -> [bool; 256]
     ensures ascii { AreOfClasses classes.now by_class.now result }
     ensures others { (b : ℕ) → 128 ≤ b → slice_index_or result b false ≡ true → others ≡ true }
@@ -256,173 +448,5 @@ fn end_passes(cells: &mut Vec<Cell>, fresh: &[FreshRow])
         if resets(cells[i], fresh) {
             cells[i] = Cell::Idle;
         }
-    }
-}
-
-/// The rows that a search may be in before one of the rarest characters that each match needs, if they are rarer than starts. The error is
-/// want of memory.
-fn rows_before_rarest(
-    alloc: Global,
-    cells: &[Cell],
-    places: &CellPlaces,
-    starts: Starts,
-) -> Result<Option<Vec<u32>>, AllocError> {
-    let most = starts.per_million / (1_000 * TIMES_RARER);
-    if most < LEAST_WEIGHT {
-        return Ok(None);
-    }
-    let mut weights = weights_of(places.classes);
-    let classes = ascii_classes(alloc, places.classes)?;
-    for _ in 0..MOST_ASKED {
-        let class = rarest(&weights, &classes);
-        if weight_of(&weights, class) > most {
-            return Ok(None);
-        }
-        if let Some(rows) = rows_before(alloc, cells, places, &classes, class)? {
-            return Ok(Some(rows));
-        }
-        forget(&mut weights, class);
-    }
-    Ok(None)
-}
-
-/// How many of a thousand characters of a text are ASCII characters of each class, about.
-fn weights_of(classes: &[u32; 256]) -> [u32; 256] {
-    let mut weights = [0u32; 256];
-    for code in 0..128u8 {
-        let class = classes[code as usize] as usize;
-        if class < MARKED {
-            weights[class] = weights[class].saturating_add(weight(code));
-        }
-    }
-    weights
-}
-
-/// How many of a thousand characters of a text are of this class, about; the greatest number where that is not known.
-fn weight_of(weights: &[u32; 256], class: u32) -> u32 {
-    let class = class as usize;
-    if class >= MARKED {
-        return u32::MAX;
-    }
-    weights[class]
-}
-
-/// Lets the class be no rare one.
-fn forget(weights: &mut [u32; 256], class: u32) {
-    let class = class as usize;
-    if class < MARKED {
-        weights[class] = u32::MAX;
-    }
-}
-
-/// One of these classes of which characters are rarest, but for those that do not occur; 0 if there is none.
-fn rarest(weights: &[u32; 256], classes: &[u32]) -> u32 {
-    let mut best = 0;
-    let mut least = u32::MAX;
-    for k in 0..classes.len() {
-        let weight = weight_of(weights, classes[k]);
-        if weight > 0 && weight < least {
-            best = classes[k];
-            least = weight;
-        }
-    }
-    best
-}
-
-/// The classes of ASCII characters, each once. The error is want of memory.
-fn ascii_classes(alloc: Global, by_code: &[u32; 256]) -> Result<Vec<u32>, AllocError> {
-    let mut classes: Vec<u32> = Vec::new(alloc);
-    for code in 0..128 {
-        let class = by_code[code];
-        if !is_among(&classes, class) {
-            classes.push(class)?;
-        }
-    }
-    Ok(classes)
-}
-
-/// The rows that a search may be in before a character of one of these classes, if before one nothing matches. The error is want of
-/// memory.
-fn rows_before(
-    alloc: Global,
-    cells: &[Cell],
-    places: &CellPlaces,
-    classes: &[u32],
-    needed: u32,
-) -> Result<Option<Vec<u32>>, AllocError> {
-    let mut rows = fresh_numbers(alloc, places.fresh)?;
-    for next in 0..MOST_ROWS {
-        if next >= rows.len() {
-            return Ok(Some(rows));
-        }
-        let row = rows[next];
-        if !add_rows(cells, classes, needed, row, &mut rows)? {
-            return Ok(None);
-        }
-    }
-    Ok(None)
-}
-
-/// The rows for searches that begin, each once. The error is want of memory.
-fn fresh_numbers(alloc: Global, fresh: &[FreshRow]) -> Result<Vec<u32>, AllocError> {
-    let mut rows: Vec<u32> = Vec::new(alloc);
-    for i in 0..fresh.len() {
-        if !is_among(&rows, fresh[i].row) {
-            rows.push(fresh[i].row)?;
-        }
-    }
-    Ok(rows)
-}
-
-/// Adds the rows to which characters of these classes but the needed one lead from this row; `false` where one of them ends the search or
-/// notes a match. The error is want of memory.
-fn add_rows(
-    cells: &[Cell],
-    classes: &[u32],
-    needed: u32,
-    row: u32,
-    rows: &mut Vec<u32>,
-) -> Result<bool, AllocError> {
-    for k in 0..classes.len() {
-        if classes[k] != needed {
-            match cell_at(cells, classes[k], row) {
-                Cell::Idle => {}
-                Cell::Next {
-                    ends: false,
-                    row: to,
-                    ..
-                } => {
-                    if !is_among(rows, to) {
-                        rows.push(to)?;
-                    }
-                }
-                _ => return Ok(false),
-            }
-        }
-    }
-    Ok(true)
-}
-
-/// How many of a thousand characters of a text are this one, about.
-pub fn weight(code: u8) -> u32 {
-    match code {
-        b' ' => 150,
-        b'e' => 95,
-        b't' => 70,
-        b'a' => 62,
-        b'o' | b'i' | b'n' => 56,
-        b's' | b'r' => 49,
-        b'h' => 40,
-        b'l' | b'd' => 31,
-        b'c' => 26,
-        b'\n' => 25,
-        b'u' | b'm' => 21,
-        b'f' | b'p' => 18,
-        b'g' | b'w' | b'y' | b'b' => 13,
-        b'v' | b'k' => 7,
-        b'0'..=b'9' => 4,
-        b'x' | b'j' | b'q' | b'z' | b'A'..=b'Z' => 2,
-        b'!'..=b'~' => 3,
-        _ => 0,
     }
 }

@@ -27,4 +27,11 @@ impl Starts {
     pub fn are_common(self) -> bool {
         self.per_million > MOST_RARE
     }
+
+    /// These, or as many as are rare if they are common.
+    pub fn or_rare(self) -> Starts {
+        Starts {
+            per_million: self.per_million.min(MOST_RARE),
+        }
+    }
 }

@@ -1,6 +1,6 @@
 //! The classes of characters that are not ASCII, by what the leaves say of them.
 
-ghost use Rattle.std.specs.Prelude.{◌≡◌, ◌<◌, ◌≤◌, ℕ, Bool, List, Some, true, false, IfOk, IsCharBoundary, length, slice_index_or};
+ghost use Rattle.std.specs.Prelude.{◌≡◌, ◌<◌, ◌≤◌, ℕ, Bool, List, Some, true, false, IfOk, IfSome, IsCharBoundary, length, slice_index_or};
 ghost use Rattle.regex_hir.specs.Text.{char_at};
 ghost use Rattle.fancy_regex_class.specs.declared.class.CharClassMatcher.{CharClassMatcher as MatcherValue};
 ghost use Rattle.fancy_regex_table.specs.Blocks.{AreInside};
@@ -69,11 +69,14 @@ impl Wide {
         self.by_answers[number_of(matchers, unicode, &self.questions, c) as usize]
     }
 
-    /// Whether the class of each character below U+10000 that is not ASCII is marked. Each is known then, if the first one is not marked.
-    pub fn all_short_are(&self, marked: &[bool; 256]) -> bool
-        ensures { result ≡ true → AllShortAre self.now marked.now }
+    /// The classes of the characters below U+10000 that are not ASCII, marked, if each has one. Others may be marked too.
+    pub fn short_classes(&self) -> Option<[bool; 256]>
+        ensures { IfSome result (AllShortAre self.now) }
     {
-        self.have_blocks() && self.classes_are(marked)
+        if self.have_blocks() {
+            return Some(self.block_classes());
+        }
+        None
     }
 
     /// Whether each row of characters that are not ASCII has a block of known classes.
@@ -88,17 +91,16 @@ impl Wide {
         true
     }
 
-    /// Whether all classes of the blocks after the first are marked.
-    fn classes_are(&self, marked: &[bool; 256]) -> bool
-        ensures { result ≡ true → (i : ℕ) → 64 ≤ i → i < length self.now.classes.items
-            → slice_index_or marked.now (slice_index_or self.now.classes.items i 0) false ≡ true }
+    /// The classes of the blocks after the first, marked.
+    fn block_classes(&self) -> [bool; 256]
+        ensures { (i : ℕ) → 64 ≤ i → i < length self.now.classes.items
+            → slice_index_or result (slice_index_or self.now.classes.items i 0) false ≡ true }
     {
+        let mut marked = [false; 256];
         for i in 64..self.classes.len() {
-            if !marked[self.classes[i] as usize] {
-                return false;
-            }
+            marked[self.classes[i] as usize] = true;
         }
-        true
+        marked
     }
 
     /// The character at the byte offset `at`, which is not ASCII.

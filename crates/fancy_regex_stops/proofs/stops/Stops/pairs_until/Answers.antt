@@ -1,6 +1,6 @@
 use Rattle.std.proofs.Common.{◌<◌, ◌≤◌, ◌+◌, ℕ, length, slice_index_or, arith}
 use Rattle.fancy_regex_stops.specs.Gaps.{pair_gap}
-use Rattle.fancy_regex_stops.proofs.LaneLemmas.{and_on, pair_says}
+use Rattle.fancy_regex_stops.proofs.LaneLemmas.{and_on, pair_says, short_pair_says}
 use Rattle.fancy_regex_stops.proofs.stops.Stops.pairs_until.Goals as goal
 use Rattle.fancy_regex_stops.proofs.stops.Stops.pairs_until.Goals.{After-pairs_at-passed}
 
@@ -33,3 +33,13 @@ pub returns-clause-passed : goal.returns-clause-passed
 returns-clause-passed c marks others wide covers covers_others i low high =
     let is = c.blocks-2.invariant.passed i low high in
     pair_says c.args.self.now c.args.second.now marks wide others c.args.bytes.now i covers covers_others is.0 is.1
+
+pub returns-then-passed-lt-LANES-clause-short : goal.returns-then-passed-lt-LANES-clause-short
+returns-then-passed-lt-LANES-clause-short c marks others short covers covers_others i low high =
+    let is = passed (goal.at.returns-then-passed-lt-LANES-clause-short c).After-pairs_at-passed i low high in
+    short_pair_says c.args.self.now c.args.second.now marks short others c.args.bytes.now i covers covers_others is.0 is.1
+
+pub returns-clause-short : goal.returns-clause-short
+returns-clause-short c marks others short covers covers_others i low high =
+    let is = c.blocks-2.invariant.passed i low high in
+    short_pair_says c.args.self.now c.args.second.now marks short others c.args.bytes.now i covers covers_others is.0 is.1

@@ -1,17 +1,27 @@
-use Rattle.std.proofs.Common.{ℕ, arith}
-use Rattle.fancy_regex_class.proofs.SkipLemmas.{below_next}
-use Rattle.fancy_regex_stops.specs.Stops.{IsShortAt}
+use Rattle.std.proofs.Common.{◌≡◌, ◌+◌, ◌≤◌, ◌<◌, ℕ, arith, ⊎_elim, sym, subst}
+use Rattle.std.proofs.lemmas.Bool.{cases_lt}
+use Rattle.fancy_regex_table.specs.Needed.{IsPassedIn}
 use Rattle.fancy_regex_table.proofs.needed.Needed.stop_from.Goals as goal
 
-pub bytes-preserved : goal.bytes-preserved
-bytes-preserved c = record {
-  range = (omega (arith, c.bytes.invariant.range), omega (arith, c.bytes-test.true));
-  passed = below_next (λ (i : ℕ). IsShortAt c.args.bytes.now c.args.self.now.marked c.args.self.now.passes_short i) c.args.from c.bytes.stop
-      c.bytes.invariant.passed (c.is_passed.ensures c.if-not-is_passed.false);
-}
+pub stops-init : goal.stops-init
+stops-init c = record { range = c.skip-stop.ensures.range; passed = λ marks. c.skip-stop.ensures.passed c.args.classes.now marks }
 
-pub bytes-init : goal.bytes-init
-bytes-init c = record {
-  range = c.until-stop.ensures.range;
-  passed = c.until-stop.ensures.short c.args.self.now.marked c.args.self.now.passes_short c.args.self.now.covered;
-}
+pub stops-preserved : goal.stops-preserved
+stops-preserved c =
+    let classes = c.args.classes.now in
+    let needed = c.args.self.now in
+    let bytes = c.args.bytes.now in
+    let here : ℕ = c.stops.stop in
+    let on = c.skip.ensures in
+    record {
+      range = (omega (arith, c.stops.invariant.range, on.range), on.range.1);
+      passed = λ marks i low less.
+          ⊎_elim (λ (before : i < here). c.stops.invariant.passed marks i low before)
+          (λ (over : here ≤ i).
+          ⊎_elim (λ (past : here < i). on.passed classes marks i (omega (arith, past)) less)
+          (λ (at : i ≤ here).
+          let same : i ≡ here = omega (arith, over, at) in
+          subst (IsPassedIn classes needed bytes) (sym same) (c.is_passed.ensures c.if-not-is_passed.false))
+          (cases_lt here i))
+          (cases_lt i here);
+    }

@@ -1,0 +1,397 @@
+//! Which characters in a row a search goes on to.
+
+use crate::flat::cell_at;
+use crate::needed_maker::{CellPlaces, is_at, is_reached, matched_after};
+use crate::pattern::Starts;
+use crate::row::Cell;
+use std::alloc::{AllocError, Global};
+
+/// The most characters in a row that are looked for.
+const LONGEST: usize = 3;
+
+/// The most rows that a search may be in before characters that are needed, each with the number of those that it has come past.
+const MOST_REACHED: usize = 64;
+
+/// How many strings are asked whether matches need them, the best ones.
+const MOST_ASKED: usize = 2;
+
+/// How much more a search for starts costs than one for needed characters, at least, where that is done.
+const TIMES_RARER: u64 = 4;
+
+/// Starts before fewer than so many of a million characters are few enough.
+const LEAST_STARTS: u32 = 4_000;
+
+/// What it costs to test a second character where one of a thousand is a first one, beside a stop in a million characters.
+const PER_FIRST: u64 = 2;
+
+/// How many classes are weighed.
+const MARKED: usize = 256;
+
+/// A row in which a search may be, and how many characters of a needed string stand before it.
+#[derive(Clone, Copy)]
+pub struct Reached {
+    pub row: u32,
+    pub matched: usize,
+}
+
+/// The classes of characters that stand in a row in each match, and the rows before them.
+pub struct NeededString {
+    pub classes: Vec<u32>,
+    pub reached: Vec<Reached>,
+}
+
+/// A row on the way to a match.
+#[derive(Clone, Copy)]
+struct Step {
+    row: u32,
+    /// The step before, and the class by which it led here.
+    from: usize,
+    class: u32,
+}
+
+/// A part of the way to a match.
+#[derive(Clone, Copy)]
+struct Part {
+    at: usize,
+    long: usize,
+    cost: u64,
+}
+
+/// The characters in a row that a search is to go on to, if there are some that are rarer than starts. The error is want of memory.
+pub fn string_for(
+    alloc: Global,
+    cells: &[Cell],
+    places: &CellPlaces,
+    starts: Starts,
+) -> Result<Option<NeededString>, AllocError> {
+    if starts.per_million < LEAST_STARTS {
+        return Ok(None);
+    }
+    let most = u64::from(starts.per_million) / TIMES_RARER;
+    let weights = weights_of(places.classes);
+    let classes = ascii_classes(alloc, places.classes, &weights)?;
+    let Some(way) = way_to_match(alloc, cells, places, &classes, false)? else {
+        return Ok(None);
+    };
+    let Some(other) = way_to_match(alloc, cells, places, &classes, true)? else {
+        return Ok(None);
+    };
+    let mut least = 0;
+    for _ in 0..MOST_ASKED {
+        let Some(part) = best_part(&weights, &way, &other, least, most) else {
+            return Ok(None);
+        };
+        let string = part_of(alloc, &way, part)?;
+        if let Some(reached) = reached_before(alloc, cells, places, &classes, &string)? {
+            return Ok(Some(NeededString {
+                classes: string,
+                reached,
+            }));
+        }
+        least = part.cost + 1;
+    }
+    Ok(None)
+}
+
+/// How many of a thousand characters of a text are ASCII characters of each class, about.
+fn weights_of(classes: &[u32; 256]) -> [u32; 256] {
+    let mut weights = [0u32; 256];
+    for code in 0..128u8 {
+        let class = classes[code as usize] as usize;
+        if class < MARKED {
+            weights[class] = weights[class].saturating_add(weight(code));
+        }
+    }
+    weights
+}
+
+/// How many of a thousand characters of a text are of this class, about.
+fn weight_of(weights: &[u32; 256], class: u32) -> u64 {
+    let class = class as usize;
+    if class >= MARKED {
+        return 1_000;
+    }
+    u64::from(weights[class].max(1))
+}
+
+/// The classes of ASCII characters, each once, the commonest ones first. The error is want of memory.
+fn ascii_classes(
+    alloc: Global,
+    by_code: &[u32; 256],
+    weights: &[u32; 256],
+) -> Result<Vec<u32>, AllocError> {
+    let mut classes: Vec<u32> = Vec::new(alloc);
+    let mut seen = [false; 256];
+    for code in 0..128 {
+        let class = by_code[code];
+        if (class as usize) < MARKED && !seen[class as usize] {
+            seen[class as usize] = true;
+            classes.push(class)?;
+            let mut at = classes.len() - 1;
+            'places: while at > 0
+                && weight_of(weights, classes[at - 1]) < weight_of(weights, class)
+            {
+                classes[at] = classes[at - 1];
+                at -= 1;
+            }
+            classes[at] = class;
+        }
+    }
+    Ok(classes)
+}
+
+/// The classes of characters on a short way to a match, the last one of which ends it or comes after it; `None` where none is found among few
+/// rows. The error is want of memory.
+fn way_to_match(
+    alloc: Global,
+    cells: &[Cell],
+    places: &CellPlaces,
+    classes: &[u32],
+    is_reversed: bool,
+) -> Result<Option<Vec<u32>>, AllocError> {
+    let mut steps: Vec<Step> = Vec::new(alloc);
+    for i in 0..places.fresh.len() {
+        let row = places.fresh[i].row;
+        if !has_step(&steps, row) {
+            steps.push(Step {
+                row,
+                from: usize::MAX,
+                class: 0,
+            })?;
+        }
+    }
+    let mut next = 0;
+    'steps: while next < steps.len() && next < MOST_REACHED {
+        let row = steps[next].row;
+        for k in 0..classes.len() {
+            let class = if is_reversed {
+                classes[classes.len() - 1 - k]
+            } else {
+                classes[k]
+            };
+            match cell_at(cells, class, row) {
+                Cell::Idle => {}
+                Cell::Unknown => return Ok(None),
+                Cell::Next {
+                    ends: false,
+                    row,
+                    ..
+                } => {
+                    if !has_step(&steps, row) {
+                        steps.push(Step {
+                            row,
+                            from: next,
+                            class,
+                        })?;
+                    }
+                }
+                _ => {
+                    steps.push(Step {
+                        row,
+                        from: next,
+                        class,
+                    })?;
+                    let last = steps.len() - 1;
+                    return Ok(Some(way_of(alloc, &steps, last)?));
+                }
+            }
+        }
+        next += 1;
+    }
+    Ok(None)
+}
+
+fn has_step(steps: &[Step], row: u32) -> bool {
+    for i in 0..steps.len() {
+        if steps[i].row == row {
+            return true;
+        }
+    }
+    false
+}
+
+/// The classes of the steps up to this one. The error is want of memory.
+fn way_of(alloc: Global, steps: &[Step], last: usize) -> Result<Vec<u32>, AllocError> {
+    let mut way: Vec<u32> = Vec::new(alloc);
+    let mut at = last;
+    for _ in 0..steps.len() {
+        if at < steps.len() && steps[at].from != usize::MAX {
+            way.push(steps[at].class)?;
+            at = steps[at].from;
+        }
+    }
+    let long = way.len();
+    for i in 0..long / 2 {
+        let one = way[i];
+        way[i] = way[long - 1 - i];
+        way[long - 1 - i] = one;
+    }
+    Ok(way)
+}
+
+/// The part of the way that costs least to look for, but this much at least, of those that are on the other way too.
+fn best_part(
+    weights: &[u32; 256],
+    way: &[u32],
+    other: &[u32],
+    least: u64,
+    most: u64,
+) -> Option<Part> {
+    let mut best: Option<Part> = None;
+    for at in 0..way.len() {
+        for long in 1..LONGEST + 1 {
+            if at + long <= way.len()
+                && is_string(way, at, long)
+                && has_part(other, way, at, long)
+            {
+                let cost = cost_of(weights, way, at, long);
+                let is_better = match best {
+                    Some(part) => cost < part.cost,
+                    None => cost <= most,
+                };
+                if cost >= least && is_better {
+                    best = Some(Part { at, long, cost });
+                }
+            }
+        }
+    }
+    best
+}
+
+/// Whether the first class of the part is none of the others.
+fn is_string(way: &[u32], at: usize, long: usize) -> bool {
+    for i in 1..long {
+        if way[at + i] == way[at] {
+            return false;
+        }
+    }
+    true
+}
+
+/// Whether the part is a part of the other way too.
+fn has_part(other: &[u32], way: &[u32], at: usize, long: usize) -> bool {
+    for from in 0..other.len() {
+        if from + long <= other.len() && is_part_at(other, from, way, at, long) {
+            return true;
+        }
+    }
+    false
+}
+
+fn is_part_at(other: &[u32], from: usize, way: &[u32], at: usize, long: usize) -> bool {
+    for i in 0..long {
+        if other[from + i] != way[at + i] {
+            return false;
+        }
+    }
+    true
+}
+
+/// How often a search for the part stops in a million characters, about; a stop at its first two characters alone counts as an eighth.
+fn cost_of(weights: &[u32; 256], way: &[u32], at: usize, long: usize) -> u64 {
+    let first = weight_of(weights, way[at]);
+    if long == 1 {
+        return first * 1_000;
+    }
+    let pairs = first * weight_of(weights, way[at + 1]);
+    let mut all = pairs;
+    for i in 2..long {
+        all = all * weight_of(weights, way[at + i]) / 1_000;
+    }
+    all + pairs / 8 + first * PER_FIRST
+}
+
+fn part_of(alloc: Global, way: &[u32], part: Part) -> Result<Vec<u32>, AllocError> {
+    let mut string: Vec<u32> = Vec::new(alloc);
+    for i in 0..part.long {
+        string.push(way[part.at + i])?;
+    }
+    Ok(string)
+}
+
+/// The rows that a search may be in before a character that completes the string, if before one nothing matches. The error is want of
+/// memory.
+fn reached_before(
+    alloc: Global,
+    cells: &[Cell],
+    places: &CellPlaces,
+    classes: &[u32],
+    string: &[u32],
+) -> Result<Option<Vec<Reached>>, AllocError> {
+    let mut reached: Vec<Reached> = Vec::new(alloc);
+    for i in 0..places.fresh.len() {
+        add(&mut reached, places.fresh[i].row, 0)?;
+    }
+    for next in 0..MOST_REACHED {
+        if next >= reached.len() {
+            return Ok(Some(reached));
+        }
+        let it = reached[next];
+        if !add_after(cells, places, classes, string, it, &mut reached)? {
+            return Ok(None);
+        }
+    }
+    Ok(None)
+}
+
+fn add(reached: &mut Vec<Reached>, row: u32, matched: usize) -> Result<(), AllocError> {
+    if !is_reached(reached, row, matched) {
+        reached.push(Reached { row, matched })?;
+    }
+    Ok(())
+}
+
+/// Adds the rows to which characters of these classes lead that do not complete the string; `false` where one of them ends the search or
+/// notes a match. The error is want of memory.
+fn add_after(
+    cells: &[Cell],
+    places: &CellPlaces,
+    classes: &[u32],
+    string: &[u32],
+    it: Reached,
+    reached: &mut Vec<Reached>,
+) -> Result<bool, AllocError> {
+    for k in 0..classes.len() {
+        let class = classes[k];
+        let matched = matched_after(string, it.matched, class);
+        if matched < string.len() {
+            match cell_at(cells, class, it.row) {
+                Cell::Idle => match places.begins[class as usize] {
+                    Some(row) => add(reached, row, matched)?,
+                    None => return Ok(false),
+                },
+                Cell::Next {
+                    ends: false,
+                    row,
+                    ..
+                } => add(reached, row, matched)?,
+                _ => return Ok(false),
+            }
+        }
+    }
+    Ok(true)
+}
+
+/// How many of a thousand characters of a text are this one, about.
+pub fn weight(code: u8) -> u32 {
+    match code {
+        b' ' => 150,
+        b'e' => 95,
+        b't' => 70,
+        b'a' => 62,
+        b'o' | b'i' | b'n' => 56,
+        b's' | b'r' => 49,
+        b'h' => 40,
+        b'l' | b'd' => 31,
+        b'c' => 26,
+        b'\n' => 25,
+        b'u' | b'm' => 21,
+        b'f' | b'p' => 18,
+        b'g' | b'w' | b'y' | b'b' => 13,
+        b'v' | b'k' => 7,
+        b'0'..=b'9' => 4,
+        b'x' | b'j' | b'q' | b'z' | b'A'..=b'Z' => 2,
+        b'!'..=b'~' => 3,
+        _ => 0,
+    }
+}
