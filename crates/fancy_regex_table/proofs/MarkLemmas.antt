@@ -1,7 +1,8 @@
 -- Marks of classes and of characters, and cells that are replaced.
-use Rattle.std.proofs.Common.{◌≡◌, ◌∙◌, ◌≢◌, inl, inr, ℕ, zero, suc, ◌+◌, ◌<◌, ◌≤◌, Bool, true, false, List, length, Some, refl, sym, ap, subst, arith, ⊎_elim, get_or, get_or-set_other, get_or-set_same, get_or_past, length-set, replicate}
+use Rattle.std.proofs.Common.{◌≡◌, ◌∙◌, ◌≢◌, inl, inr, ℕ, zero, suc, ◌+◌, ◌<◌, ◌≤◌, Bool, true, false, List, length, Some, refl, sym, ap, subst, arith, ⊎_elim, get_or, get_or-set_other, get_or-set_same, length-set, replicate}
 use Rattle.std.specs.Prelude.{set}
 use Rattle.std.proofs.lemmas.Bool.{cases_lt, false≢true}
+use Rattle.std.proofs.lemmas.List.{get_or_past}
 use Rattle.std.proofs.lemmas.Option.{slice_get_within, get_or_from_slice_get, slice_get-get_or}
 use Rattle.std.specs.Prelude.{slice_get, slice_index_or}
 use Rattle.fancy_regex_table.specs.Needed.{HasCell, Resets, IsEnded, AreEnded}

@@ -1,9 +1,9 @@
 -- Characters that are passed over where a search goes on to those that each match needs.
-use Rattle.std.proofs.Common.{◌≡◌, ◌⊎◌, inl, inr, ℕ, ◌+◌, ◌<◌, ◌≤◌, Bool, true, false, List, length, arith, ⊎_elim, subst, sym}
-use Rattle.std.specs.Prelude.{Some, slice_get, slice_index, slice_index_or}
+use Rattle.std.proofs.Common.{◌≡◌, ◌⊎◌, inl, inr, ℕ, ◌+◌, ◌<◌, ◌≤◌, true, false, List, length, arith, ⊎_elim, subst, sym}
+use Rattle.std.specs.Prelude.{slice_index, slice_index_or}
 use Rattle.std.proofs.lemmas.Option.{slice_get-get_or}
 use Rattle.fancy_regex_stops.specs.Stops.{IsShortAt, IsBeforeOther, IsShortPairAt}
-use Rattle.fancy_regex_table.specs.Needed.{AreMarks, AreOthers, IsMisfitIn, IsOther, IsPassedIn}
+use Rattle.fancy_regex_table.specs.Needed.{AreMarks, IsMisfitIn, IsOther, IsPassedIn}
 use Rattle.fancy_regex_table.specs.declared.needed.Needed.{Needed}
 
 -- a character that stands at a place of the string and is of another class is a misfit

@@ -1,7 +1,7 @@
 -- Characters in a row that each match needs, to which a search goes on.
-use Rattle.std.proofs.Common.{◌≡◌, ◌∙◌, inl, inr, ℕ, zero, suc, ◌+◌, ◌-◌, ◌/◌, ◌%◌, ◌<◌, ◌≤◌, Bool, true, false, List, length, Option, Some, None, IfSome, some-inj, refl, sym, ap, subst, arith, ⊎_elim, lt-ltb, slice_index, IsCharBoundary}
+use Rattle.std.proofs.Common.{◌≡◌, ◌∙◌, ◌⊎◌, inl, inr, ℕ, zero, suc, ◌+◌, ◌-◌, ◌/◌, ◌%◌, ◌<◌, ◌≤◌, Bool, true, false, List, length, Option, Some, None, IfSome, refl, sym, ap, subst, arith, ⊎_elim, lt-ltb, slice_index, IsCharBoundary}
 use Rattle.std.proofs.lemmas.Bool.{cases_lt, cond-true}
-use Rattle.std.proofs.lemmas.Option.{slice_get_within}
+use Rattle.std.proofs.lemmas.Option.{slice_get_within, same_Some}
 use Rattle.std.proofs.lemmas.Str.{IsCharBoundary-before_ascii}
 use Rattle.std.specs.Char.{len_utf8}
 use Rattle.std.specs.Prelude.{slice_get, slice_index_or}
@@ -133,7 +133,7 @@ no_misfit : (classes string bytes : List ℕ) (i : ℕ) → ((j : ℕ) → j < l
     → IsMisfitIn classes string bytes i → ⊥
 no_misfit classes string bytes i each misfit =
     let at = each misfit.place (slice_get_within string misfit.place misfit.wanted misfit.is_there) in
-    misfit.differs at.0 (some-inj (sym at.1 ∙ misfit.is_there))
+    misfit.differs at.0 (same_Some _ _ (sym at.1 ∙ misfit.is_there))
 
 -- the string does not end where the characters up to there are passed over
 no_string : (classes : List ℕ) (needed : Needed) (bytes : List ℕ) (from at after : ℕ) → ((i : ℕ) → from ≤ i → i ≤ at → IsPassedIn classes needed bytes i)

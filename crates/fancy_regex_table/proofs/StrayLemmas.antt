@@ -1,7 +1,7 @@
 -- Characters that are of no string.
-use Rattle.std.proofs.Common.{◌≡◌, ◌⊎◌, inl, inr, ℕ, ◌+◌, ◌<◌, List, length, Some, sym, subst, arith, ⊎_elim}
+use Rattle.std.proofs.Common.{◌≡◌, ◌⊎◌, ℕ, ◌+◌, ◌<◌, List, length, Some, subst, arith, ⊎_elim}
 use Rattle.std.specs.Prelude.{slice_get}
-use Rattle.fancy_regex_table.specs.Needed.{HasCell, IsAfter, IsDone, IsStray}
+use Rattle.fancy_regex_table.specs.Needed.{HasCell, IsDone, IsStray}
 use Rattle.fancy_regex_table.specs.declared.needed_choice.Reached.{Reached}
 use Rattle.fancy_regex_table.specs.declared.row.Cell.{Cell}
 

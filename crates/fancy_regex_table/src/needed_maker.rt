@@ -4,7 +4,7 @@ ghost use Rattle.std.specs.Prelude.{◌≡◌, ◌<◌, ◌≤◌, ◌+◌, ℕ,
 ghost use Rattle.fancy_regex_stops.specs.Stops.{Covers};
 ghost use Rattle.fancy_regex_table.specs.Wides.{AllShortAre};
 ghost use Rattle.fancy_regex_table.specs.declared.wide.Wide.{Wide as WideValue};
-ghost use Rattle.fancy_regex_table.specs.Needed.{AreEffects, AreEnded, AreOfClasses, AreOthers, HasBegin, HasCell, IsAfter, IsKept, IsKeptWide, IsNeededOf, IsOneOf, IsReached, IsReset, IsResetWide, IsStray, LeadsTo, Resets};
+ghost use Rattle.fancy_regex_table.specs.Needed.{IsOther, AreEffects, AreEnded, AreOfClasses, AreOthers, HasBegin, HasCell, IsAfter, IsKept, IsKeptWide, IsNeededOf, IsOneOf, IsReached, IsReset, IsResetWide, IsStray, LeadsTo, Resets};
 
 use crate::flat::cell_at;
 use crate::needed::Needed;

@@ -1,7 +1,5 @@
-use Rattle.std.proofs.Common.{◌≡◌, ◌∙◌, ◌<◌, ◌≤◌, ℕ, true, false, arith, ⊎_elim, sym, ap, get_or, get_or-set_same, length-set}
-use Rattle.std.proofs.lemmas.Bool.{cases_lt}
+use Rattle.std.proofs.Common.{◌≡◌, ◌∙◌, ◌<◌, ◌≤◌, ℕ, true, false, arith, ⊎_elim, sym, ap, get_or, length-set}
 use Rattle.std.proofs.lemmas.List.{length-replicate}
-use Rattle.fancy_regex_table.proofs.MarkLemmas.{mark_kept}
 use Rattle.fancy_regex_table.proofs.wide.Wide.block_classes.Goals as goal
 
 pub loop-i-init : goal.loop-i-init
