@@ -12,7 +12,7 @@ use Rattle.fancy_regex_class.proofs.AdjacentCharLemmas.{ascii_before}
 use Rattle.fancy_regex_states.specs.declared.rules.Rules.{Rules}
 use Rattle.fancy_regex_table.specs.Cells.{Parts, Search, TellsBy, NoneBefore, IsIn, begun_at, IsRightBy}
 use Rattle.fancy_regex_table.specs.Made.{AreFreshBy}
-use Rattle.fancy_regex_table.specs.Needed.{IsReached, IsOneOf, LeadsTo, Resets, HasCell, HasBegin, IsAfter, IsDone, IsMisfitIn, IsPassedIn, IsNeededOf, IsPassedTo, IsEnded, AreEnded}
+use Rattle.fancy_regex_table.specs.Needed.{IsReached, IsOneOf, LeadsTo, Resets, HasCell, HasBegin, IsAfter, IsDone, IsMisfitIn, IsPassedIn, IsNeededOf, IsPassedTo, IsEnded, AreEnded, ResetsAnyhow}
 use Rattle.fancy_regex_table.specs.Sorts.{sort_at}
 use Rattle.fancy_regex_table.specs.Tables.{IsTable, IsSearchOf, IsCharTo, IsFreshRow, HasColumn, Stands, AreCells}
 use Rattle.fancy_regex_table.specs.Wides.{class_in, class_of, IsWideAt}
@@ -148,7 +148,8 @@ no_string classes needed bytes from at after passed start small m all =
     ⊎_elim
     (λ (one : (slice_index_or bytes i 0 < 128) × IsMisfitIn classes string bytes i). no_misfit classes string bytes i each one.1)
     (λ (wide : (128 ≤ slice_index_or bytes i 0) × (slice_index_or bytes i 0 < 240) × (needed.passes_short ≡ true)).
-    let first = (subst (λ (k : ℕ). IsAt classes string 0 (slice_index_or bytes k 0)) (omega arith) (each 0 (omega (arith, some, all)))).0 in
+    let same : i + 0 ≡ i = omega arith in
+    let first = (subst (λ (k : ℕ). IsAt classes string 0 (slice_index_or bytes k 0)) same (each 0 (omega (arith, some, all)))).0 in
     absurd (omega (arith, wide.0, first)))
     (passed i (omega (arith, low)) (omega (arith, some))))
     (λ (none : after ≤ 0).
@@ -260,7 +261,7 @@ module _ {parts : Parts} {rules : Rules} {s : Search} {table : Table} (t : IsTab
               let last : to - 1 ≡ at = omega (arith, end) in
               let is = passed.reset (omega (arith, low, less)) in
               let mark = subst (λ (i : ℕ). slice_index_or needed.resets (slice_index_or text i 0) false ≡ true) last is.reset in
-              not_ended (λ _. Resets table.fresh.items) row at matched b low less refl small m
+              not_ended (ResetsAnyhow table.fresh.items) row at matched b low less refl small m
               (n.reset b small mark among.place (record { row = row; matched = matched }) among.is_there);
         })
         (λ (large : 128 ≤ b).

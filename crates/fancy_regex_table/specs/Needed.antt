@@ -69,9 +69,13 @@ IsKept cells begins reached string class = (i : ℕ) (it : Reached) → slice_ge
 abbrev pub IsKeptWide : List Cell → List (Option ℕ) → List Reached → ℕ → Type 0
 IsKeptWide cells begins reached class = (i : ℕ) (it : Reached) → slice_get reached i ≡ Some it → HasCell cells (it.row + class) (LeadsTo begins reached class 0)
 
+-- the same however many characters of the string stand before
+abbrev pub ResetsAnyhow : List FreshRow → ℕ → Cell → Type 0
+ResetsAnyhow fresh matched cell = Resets fresh cell
+
 -- no attempt is under way afterwards, unless it completes the string
 abbrev pub IsReset : List Cell → List FreshRow → List Reached → List ℕ → ℕ → Type 0
-IsReset cells fresh reached string class = (i : ℕ) (it : Reached) → slice_get reached i ≡ Some it → IsDone cells string class it (λ _. Resets fresh)
+IsReset cells fresh reached string class = (i : ℕ) (it : Reached) → slice_get reached i ≡ Some it → IsDone cells string class it (ResetsAnyhow fresh)
 
 -- the same of a character that is of no string
 abbrev pub IsResetWide : List Cell → List FreshRow → List Reached → ℕ → Type 0

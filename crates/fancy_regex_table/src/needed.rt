@@ -47,7 +47,8 @@ impl Needed {
     #[inline(always)]
     fn onset(&self, classes: &[u32; 256], bytes: &[u8], from: usize) -> Onset
         requires { from ≤ length bytes.now }
-        ensures { AreMarks classes.now self.now → IsPassedTo classes.now self.now bytes.now from result.place }
+        ensures range { (from ≤ result.place) × (result.place ≤ length bytes.now) }
+        ensures passed { AreMarks classes.now self.now → IsPassedTo classes.now self.now bytes.now from result.place }
     {
         let stop = self.stop_from(classes, bytes, from);
         let place = self.reset_before(bytes, from, stop);
@@ -83,8 +84,8 @@ impl Needed {
         ensures passed { (classes : List ℕ) → AreMarks classes self.now
             → (i : ℕ) → from ≤ i → i < result → IsPassedIn classes self.now bytes.now i }
     {
-        match &self.next_stops {
-            Some(next) => self.stops.pairs_until(next, bytes, from),
+        match self.next_stops {
+            Some(next) => self.stops.pairs_until(&next, bytes, from),
             None => self.stops.until(bytes, from),
         }
     }

@@ -49,6 +49,17 @@ struct Step {
     class: u32,
 }
 
+/// Where the steps from a row lead.
+#[derive(Clone, Copy)]
+enum Onward {
+    /// To other rows.
+    Steps,
+    /// To a match.
+    Match,
+    /// To a cell that is unknown.
+    Unknown,
+}
+
 /// A part of the way to a match.
 #[derive(Clone, Copy)]
 struct Part {
@@ -88,7 +99,7 @@ pub fn string_for(
                 reached,
             }));
         }
-        least = part.cost + 1;
+        least = part.cost.saturating_add(1);
     }
     Ok(None)
 }
@@ -114,6 +125,14 @@ fn weight_of(weights: &[u32; 256], class: u32) -> u64 {
     u64::from(weights[class].max(1))
 }
 
+/// The class at this place, or one that none is.
+fn class_at(classes: &[u32], place: usize) -> u32 {
+    if place < classes.len() {
+        return classes[place];
+    }
+    u32::MAX
+}
+
 /// The classes of ASCII characters, each once, the commonest ones first. The error is want of memory.
 fn ascii_classes(
     alloc: Global,
@@ -124,24 +143,58 @@ fn ascii_classes(
     let mut seen = [false; 256];
     for code in 0..128 {
         let class = by_code[code];
-        if (class as usize) < MARKED && !seen[class as usize] {
-            seen[class as usize] = true;
+        if is_new(&seen, class) {
+            mark(&mut seen, class);
             classes.push(class)?;
-            let mut at = classes.len() - 1;
-            'places: while at > 0
-                && weight_of(weights, classes[at - 1]) < weight_of(weights, class)
-            {
-                classes[at] = classes[at - 1];
-                at -= 1;
-            }
-            classes[at] = class;
+            settle(&mut classes, weights);
         }
     }
     Ok(classes)
 }
 
-/// The classes of characters on a short way to a match, the last one of which ends it or comes after it; `None` where none is found among few
-/// rows. The error is want of memory.
+/// Whether the class is not marked, and could be.
+fn is_new(seen: &[bool; 256], class: u32) -> bool {
+    let class = class as usize;
+    class < MARKED && !seen[class]
+}
+
+/// Marks the class.
+fn mark(seen: &mut [bool; 256], class: u32) {
+    let class = class as usize;
+    if class < MARKED {
+        seen[class] = true;
+    }
+}
+
+/// Brings the last class to its place among the others, the commonest ones of which come first.
+fn settle(classes: &mut Vec<u32>, weights: &[u32; 256]) {
+    let long = classes.len();
+    for k in 0..long {
+        let at = long - 1 - k;
+        let is_first = at == 0;
+        if is_first
+            || weight_of(weights, class_at(classes, at - 1))
+                >= weight_of(weights, class_at(classes, at))
+        {
+            return;
+        }
+        swap_back(classes, at);
+    }
+}
+
+/// Swaps the class at this place with the one before it, if both are there.
+fn swap_back(classes: &mut Vec<u32>, at: usize) {
+    if at == 0 || at >= classes.len() {
+        return;
+    }
+    let class = classes[at];
+    let before = classes[at - 1];
+    classes[at] = before;
+    classes[at - 1] = class;
+}
+
+/// The classes of characters on a short way to a match, the last one of which ends it or comes after it; `None` where none is found among
+/// few rows. Those that are commonest are tried first, or with `is_reversed` the rarest ones. The error is want of memory.
 fn way_to_match(
     alloc: Global,
     cells: &[Cell],
@@ -152,55 +205,67 @@ fn way_to_match(
     let mut steps: Vec<Step> = Vec::new(alloc);
     for i in 0..places.fresh.len() {
         let row = places.fresh[i].row;
-        if !has_step(&steps, row) {
-            steps.push(Step {
-                row,
-                from: usize::MAX,
-                class: 0,
-            })?;
-        }
+        add_step(&mut steps, row, usize::MAX, 0)?;
     }
-    let mut next = 0;
-    'steps: while next < steps.len() && next < MOST_REACHED {
-        let row = steps[next].row;
-        for k in 0..classes.len() {
-            let class = if is_reversed {
-                classes[classes.len() - 1 - k]
-            } else {
-                classes[k]
-            };
-            match cell_at(cells, class, row) {
-                Cell::Idle => {}
-                Cell::Unknown => return Ok(None),
-                Cell::Next {
-                    ends: false,
-                    row,
-                    ..
-                } => {
-                    if !has_step(&steps, row) {
-                        steps.push(Step {
-                            row,
-                            from: next,
-                            class,
-                        })?;
-                    }
-                }
-                _ => {
-                    steps.push(Step {
-                        row,
-                        from: next,
-                        class,
-                    })?;
-                    let last = steps.len() - 1;
-                    return Ok(Some(way_of(alloc, &steps, last)?));
-                }
-            }
+    for next in 0..MOST_REACHED {
+        if next >= steps.len() {
+            return Ok(None);
         }
-        next += 1;
+        let row = steps[next].row;
+        match steps_after(cells, classes, is_reversed, row, next, &mut steps)? {
+            Onward::Steps => {}
+            Onward::Match => {
+                let way = way_of(alloc, &steps)?;
+                return Ok(Some(way));
+            }
+            Onward::Unknown => return Ok(None),
+        }
     }
     Ok(None)
 }
 
+/// Adds the step, unless there is one to its row. The error is want of memory.
+fn add_step(steps: &mut Vec<Step>, row: u32, from: usize, class: u32) -> Result<(), AllocError> {
+    if !has_step(steps, row) {
+        steps.push(Step { row, from, class })?;
+    }
+    Ok(())
+}
+
+/// Adds the steps from this row by these classes, up to one that notes a match, which comes last. The error is want of memory.
+fn steps_after(
+    cells: &[Cell],
+    classes: &[u32],
+    is_reversed: bool,
+    row: u32,
+    from: usize,
+    steps: &mut Vec<Step>,
+) -> Result<Onward, AllocError> {
+    for k in 0..classes.len() {
+        let place = if is_reversed {
+            classes.len() - 1 - k
+        } else {
+            k
+        };
+        let class = class_at(classes, place);
+        match cell_at(cells, class, row) {
+            Cell::Idle => {}
+            Cell::Unknown => return Ok(Onward::Unknown),
+            Cell::Next {
+                ends: false,
+                row: to,
+                ..
+            } => add_step(steps, to, from, class)?,
+            _ => {
+                steps.push(Step { row, from, class })?;
+                return Ok(Onward::Match);
+            }
+        }
+    }
+    Ok(Onward::Steps)
+}
+
+/// Whether there is a step to this row.
 fn has_step(steps: &[Step], row: u32) -> bool {
     for i in 0..steps.len() {
         if steps[i].row == row {
@@ -210,26 +275,21 @@ fn has_step(steps: &[Step], row: u32) -> bool {
     false
 }
 
-/// The classes of the steps up to this one. The error is want of memory.
-fn way_of(alloc: Global, steps: &[Step], last: usize) -> Result<Vec<u32>, AllocError> {
+/// The classes of the steps up to the last one. The error is want of memory.
+fn way_of(alloc: Global, steps: &[Step]) -> Result<Vec<u32>, AllocError> {
     let mut way: Vec<u32> = Vec::new(alloc);
-    let mut at = last;
+    let mut at = steps.len().saturating_sub(1);
     for _ in 0..steps.len() {
-        if at < steps.len() && steps[at].from != usize::MAX {
+        if at < steps.len() && steps[at].from < steps.len() {
             way.push(steps[at].class)?;
             at = steps[at].from;
         }
     }
-    let long = way.len();
-    for i in 0..long / 2 {
-        let one = way[i];
-        way[i] = way[long - 1 - i];
-        way[long - 1 - i] = one;
-    }
+    way.reverse();
     Ok(way)
 }
 
-/// The part of the way that costs least to look for, but this much at least, of those that are on the other way too.
+/// The part of the way that costs least to look for, `least` at least and `most` at most, of those that are on the other way too.
 fn best_part(
     weights: &[u32; 256],
     way: &[u32],
@@ -240,71 +300,82 @@ fn best_part(
     let mut best: Option<Part> = None;
     for at in 0..way.len() {
         for long in 1..LONGEST + 1 {
-            if at + long <= way.len()
+            let cost = cost_of(weights, way, at, long);
+            if cost >= least
+                && is_better(best, cost, most)
                 && is_string(way, at, long)
                 && has_part(other, way, at, long)
             {
-                let cost = cost_of(weights, way, at, long);
-                let is_better = match best {
-                    Some(part) => cost < part.cost,
-                    None => cost <= most,
-                };
-                if cost >= least && is_better {
-                    best = Some(Part { at, long, cost });
-                }
+                best = Some(Part { at, long, cost });
             }
         }
     }
     best
 }
 
-/// Whether the first class of the part is none of the others.
+/// Whether a part of this cost is better than the best one so far, and costs no more than `most`.
+fn is_better(best: Option<Part>, cost: u64, most: u64) -> bool {
+    match best {
+        Some(part) => cost < part.cost,
+        None => cost <= most,
+    }
+}
+
+/// The class at this place of a part of the way.
+fn part_class(way: &[u32], at: usize, i: usize) -> u32 {
+    class_at(way, at.saturating_add(i))
+}
+
+/// Whether the way has the part, and the first class of the part is none of its others.
 fn is_string(way: &[u32], at: usize, long: usize) -> bool {
     for i in 1..long {
-        if way[at + i] == way[at] {
+        if part_class(way, at, i) == part_class(way, at, 0) {
             return false;
         }
     }
-    true
+    at.saturating_add(long) <= way.len()
 }
 
 /// Whether the part is a part of the other way too.
 fn has_part(other: &[u32], way: &[u32], at: usize, long: usize) -> bool {
     for from in 0..other.len() {
-        if from + long <= other.len() && is_part_at(other, from, way, at, long) {
+        if is_part_at(other, from, way, at, long) {
             return true;
         }
     }
     false
 }
 
+/// Whether the part stands at this place of the other way.
 fn is_part_at(other: &[u32], from: usize, way: &[u32], at: usize, long: usize) -> bool {
     for i in 0..long {
-        if other[from + i] != way[at + i] {
+        if part_class(other, from, i) != part_class(way, at, i) {
             return false;
         }
     }
     true
 }
 
-/// How often a search for the part stops in a million characters, about; a stop at its first two characters alone counts as an eighth.
+/// How often a search for the part stops in a million characters, about. A stop at its first two characters alone counts as an eighth.
 fn cost_of(weights: &[u32; 256], way: &[u32], at: usize, long: usize) -> u64 {
-    let first = weight_of(weights, way[at]);
-    if long == 1 {
-        return first * 1_000;
+    let first = weight_of(weights, part_class(way, at, 0));
+    if long < 2 {
+        return first.saturating_mul(1_000);
     }
-    let pairs = first * weight_of(weights, way[at + 1]);
+    let pairs = first.saturating_mul(weight_of(weights, part_class(way, at, 1)));
     let mut all = pairs;
     for i in 2..long {
-        all = all * weight_of(weights, way[at + i]) / 1_000;
+        all = all.saturating_mul(weight_of(weights, part_class(way, at, i))) / 1_000;
     }
-    all + pairs / 8 + first * PER_FIRST
+    all.saturating_add(pairs / 8)
+        .saturating_add(first.saturating_mul(PER_FIRST))
 }
 
+/// The classes of the part. The error is want of memory.
 fn part_of(alloc: Global, way: &[u32], part: Part) -> Result<Vec<u32>, AllocError> {
     let mut string: Vec<u32> = Vec::new(alloc);
     for i in 0..part.long {
-        string.push(way[part.at + i])?;
+        string.push(part_class(way, part.at, i))?;
     }
     Ok(string)
 }
@@ -334,6 +405,7 @@ fn reached_before(
     Ok(None)
 }
 
+/// Adds the row, unless it is there with as many characters of the string before it. The error is want of memory.
 fn add(reached: &mut Vec<Reached>, row: u32, matched: usize) -> Result<(), AllocError> {
     if !is_reached(reached, row, matched) {
         reached.push(Reached { row, matched })?;
@@ -356,7 +428,7 @@ fn add_after(
         let matched = matched_after(string, it.matched, class);
         if matched < string.len() {
             match cell_at(cells, class, it.row) {
-                Cell::Idle => match places.begins[class as usize] {
+                Cell::Idle => match begin_of(places.begins, class) {
                     Some(row) => add(reached, row, matched)?,
                     None => return Ok(false),
                 },
@@ -370,6 +442,15 @@ fn add_after(
         }
     }
     Ok(true)
+}
+
+/// The row for a search that begins after a character of this class, if there is one.
+fn begin_of(begins: &[Option<u32>], class: u32) -> Option<u32> {
+    let class = class as usize;
+    if class < begins.len() {
+        return begins[class];
+    }
+    None
 }
 
 /// How many of a thousand characters of a text are this one, about.

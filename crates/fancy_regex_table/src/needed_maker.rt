@@ -4,7 +4,7 @@ ghost use Rattle.std.specs.Prelude.{◌≡◌, ◌<◌, ◌≤◌, ◌+◌, ℕ,
 ghost use Rattle.fancy_regex_stops.specs.Stops.{Covers};
 ghost use Rattle.fancy_regex_table.specs.Wides.{AllShortAre};
 ghost use Rattle.fancy_regex_table.specs.declared.wide.Wide.{Wide as WideValue};
-ghost use Rattle.fancy_regex_table.specs.Needed.{IsOther, AreEffects, AreEnded, AreOfClasses, AreOthers, HasBegin, HasCell, IsAfter, IsKept, IsKeptWide, IsNeededOf, IsOneOf, IsReached, IsReset, IsResetWide, IsStray, LeadsTo, Resets};
+ghost use Rattle.fancy_regex_table.specs.Needed.{IsOther, AreEffects, AreEnded, AreOfClasses, AreOthers, HasBegin, HasCell, IsAfter, IsDone, IsKept, IsKeptWide, IsNeededOf, IsOneOf, IsReached, IsReset, IsResetWide, IsStray, LeadsTo, Resets, ResetsAnyhow};
 
 use crate::flat::cell_at;
 use crate::needed::Needed;
@@ -289,8 +289,18 @@ fn keeps_wide(
     leads_all(cells, begins, class, reached)
 }
 
-/// Whether no attempt is under way after a character of this class, if the search is in one of these rows, unless the character completes
-/// the string.
+/// Whether no attempt is under way after a character of this class, if the search is in this row, unless the character completes the string.
+fn resets_row(cells: &[Cell], fresh: &[FreshRow], string: &[u32], class: u32, it: Reached) -> bool
+    ensures { result ≡ true → IsDone cells.now string.now class it (ResetsAnyhow fresh.now) }
+{
+    let matched = matched_after(string, it.matched, class);
+    if matched == string.len() {
+        return true;
+    }
+    resets_at(cells, class, it.row, fresh)
+}
+
+/// The same of all these rows.
 fn resets_all(
     cells: &[Cell],
     fresh: &[FreshRow],
@@ -301,9 +311,7 @@ fn resets_all(
     ensures { result ≡ true → IsReset cells.now fresh.now reached.now string.now class }
 {
     for i in 0..reached.len() {
-        let it = reached[i];
-        let matched = matched_after(string, it.matched, class);
-        if matched != string.len() && !resets_at(cells, class, it.row, fresh) {
+        if !resets_row(cells, fresh, string, class, reached[i]) {
             return false;
         }
     }

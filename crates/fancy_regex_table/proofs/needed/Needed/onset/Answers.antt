@@ -1,8 +1,8 @@
 use Rattle.std.proofs.Common.{arith}
 use Rattle.fancy_regex_table.proofs.needed.Needed.onset.Goals as goal
 
-pub returns : goal.returns
-returns c marks =
+pub returns-clause-passed : goal.returns-clause-passed
+returns-clause-passed c marks =
     let stop = c.stop_from-stop.ensures in
     let place = c.reset_before-place.ensures in
     record {

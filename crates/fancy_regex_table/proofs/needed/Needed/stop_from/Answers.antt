@@ -12,7 +12,7 @@ stops-preserved c =
     let needed = c.args.self.now in
     let bytes = c.args.bytes.now in
     let here : ℕ = c.stops.stop in
-    let on = c.skip.ensures in
+    let on = c.skip-stop-in-stops.ensures in
     record {
       range = (omega (arith, c.stops.invariant.range, on.range), on.range.1);
       passed = λ marks i low less.

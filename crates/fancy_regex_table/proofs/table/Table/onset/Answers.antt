@@ -18,7 +18,7 @@ returns-then-is_boundary-clause-early c = λ parts rules s t search text_is from
     let some : self.needed ≡ Some needed = sym c.as_ref.ensures.value ∙ ap option_copied c.in-Some.is in
     let is : IsNeededOf self.cells.items self.fresh.items self.begins.items self.classes self.wide needed =
     subst (λ (o : Option Needed). IfSome o (IsNeededOf self.cells.items self.fresh.items self.begins.items self.classes self.wide)) some t.needed in
-    let in_bytes : IsPassedTo self.classes needed bytes from place = c.onset-onset.ensures is.marks in
+    let in_bytes : IsPassedTo self.classes needed bytes from place = c.onset-onset.ensures.passed is.marks in
     let in_text : IsPassedTo self.classes needed s.text from place = subst (λ (bs : List ℕ). IsPassedTo self.classes needed bs from place) same in_bytes in
     let passed : IsPassedTo self.classes needed s.text s.from place = subst (λ (k : ℕ). IsPassedTo self.classes needed s.text k place) (sym from_is) in_text in
     let boundary : IsCharBoundary s.text place = subst (λ (bs : List ℕ). IsCharBoundary bs place) same (c.is_boundary.ensures c.if-is_boundary.true) in
