@@ -13,7 +13,7 @@ const LONGEST: usize = 3;
 const MOST_REACHED: usize = 64;
 
 /// How many strings are asked whether matches need them, the best ones.
-const MOST_ASKED: usize = 2;
+const MOST_ASKED: usize = 3;
 
 /// How much more a search for starts costs than one for needed characters, at least, where that is done.
 const TIMES_RARER: u64 = 4;
