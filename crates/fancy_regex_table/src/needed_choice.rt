@@ -13,7 +13,10 @@ const LONGEST: usize = 3;
 const MOST_REACHED: usize = 64;
 
 /// How many strings are asked whether matches need them, the best ones.
-const MOST_ASKED: usize = 3;
+const MOST_ASKED: usize = 4;
+
+/// The class of the end of the text.
+const END_OF_TEXT: u32 = 0;
 
 /// How much more a search for starts costs than one for needed characters, at least, where that is done.
 const TIMES_RARER: u64 = 4;
@@ -54,8 +57,8 @@ struct Step {
 enum Onward {
     /// To other rows.
     Steps,
-    /// To a match.
-    Match,
+    /// To a match, by these steps up to this one.
+    Match(usize),
     /// To a cell that is unknown.
     Unknown,
 }
@@ -87,9 +90,9 @@ pub fn string_for(
     let Some(other) = way_to_match(alloc, cells, places, &classes, true)? else {
         return Ok(None);
     };
-    let mut least = 0;
-    for _ in 0..MOST_ASKED {
-        let Some(part) = best_part(&weights, &way, &other, least, most) else {
+    let mut refused: Vec<Part> = Vec::new(alloc);
+    for _asked in 0..MOST_ASKED {
+        let Some(part) = best_part(&weights, &way, &other, &refused, most) else {
             return Ok(None);
         };
         let string = part_of(alloc, &way, part)?;
@@ -99,7 +102,7 @@ pub fn string_for(
                 reached,
             }));
         }
-        least = part.cost.saturating_add(1);
+        refused.push(part)?;
     }
     Ok(None)
 }
@@ -193,8 +196,8 @@ fn swap_back(classes: &mut Vec<u32>, at: usize) {
     classes[at - 1] = class;
 }
 
-/// The classes of characters on a short way to a match, the last one of which ends it or comes after it; `None` where none is found among
-/// few rows. Those that are commonest are tried first, or with `is_reversed` the rarest ones. The error is want of memory.
+/// The classes of characters on a short way to a match; `None` where none is found among few rows. The last one ends the match or comes after
+/// it, unless the text ends there. Those that are commonest are tried first, or with `is_reversed` the rarest ones. The error is want of memory.
 fn way_to_match(
     alloc: Global,
     cells: &[Cell],
@@ -202,11 +205,7 @@ fn way_to_match(
     classes: &[u32],
     is_reversed: bool,
 ) -> Result<Option<Vec<u32>>, AllocError> {
-    let mut steps: Vec<Step> = Vec::new(alloc);
-    for i in 0..places.fresh.len() {
-        let row = places.fresh[i].row;
-        add_step(&mut steps, row, usize::MAX, 0)?;
-    }
+    let mut steps = first_steps(alloc, places)?;
     for next in 0..MOST_REACHED {
         if next >= steps.len() {
             return Ok(None);
@@ -214,14 +213,23 @@ fn way_to_match(
         let row = steps[next].row;
         match steps_after(cells, classes, is_reversed, row, next, &mut steps)? {
             Onward::Steps => {}
-            Onward::Match => {
-                let way = way_of(alloc, &steps)?;
+            Onward::Match(last) => {
+                let way = way_of(alloc, &steps, last)?;
                 return Ok(Some(way));
             }
             Onward::Unknown => return Ok(None),
         }
     }
     Ok(None)
+}
+
+/// The rows in which a search begins, as steps. The error is want of memory.
+fn first_steps(alloc: Global, places: &CellPlaces) -> Result<Vec<Step>, AllocError> {
+    let mut steps: Vec<Step> = Vec::new(alloc);
+    for i in 0..places.fresh.len() {
+        add_step(&mut steps, places.fresh[i].row, usize::MAX, 0)?;
+    }
+    Ok(steps)
 }
 
 /// Adds the step, unless there is one to its row. The error is want of memory.
@@ -232,7 +240,8 @@ fn add_step(steps: &mut Vec<Step>, row: u32, from: usize, class: u32) -> Result<
     Ok(())
 }
 
-/// Adds the steps from this row by these classes, up to one that notes a match, which comes last. The error is want of memory.
+/// Adds the steps from this row by these classes, up to one that notes a match, which comes last; if none does, there may be a match where
+/// the text ends. The error is want of memory.
 fn steps_after(
     cells: &[Cell],
     classes: &[u32],
@@ -258,11 +267,22 @@ fn steps_after(
             } => add_step(steps, to, from, class)?,
             _ => {
                 steps.push(Step { row, from, class })?;
-                return Ok(Onward::Match);
+                return Ok(Onward::Match(steps.len().saturating_sub(1)));
             }
         }
     }
+    if is_match_at_end(cells, row) {
+        return Ok(Onward::Match(from));
+    }
     Ok(Onward::Steps)
+}
+
+/// Whether there is a match where the text ends after this row.
+fn is_match_at_end(cells: &[Cell], row: u32) -> bool {
+    match cell_at(cells, END_OF_TEXT, row) {
+        Cell::Idle | Cell::Unknown | Cell::Next { ends: false, .. } => false,
+        Cell::Next { .. } | Cell::Empty | Cell::EndsHere | Cell::EndsEarlier => true,
+    }
 }
 
 /// Whether there is a step to this row.
@@ -275,11 +295,11 @@ fn has_step(steps: &[Step], row: u32) -> bool {
     false
 }
 
-/// The classes of the steps up to the last one. The error is want of memory.
-fn way_of(alloc: Global, steps: &[Step]) -> Result<Vec<u32>, AllocError> {
+/// The classes of the steps up to this one. The error is want of memory.
+fn way_of(alloc: Global, steps: &[Step], last: usize) -> Result<Vec<u32>, AllocError> {
     let mut way: Vec<u32> = Vec::new(alloc);
-    let mut at = steps.len().saturating_sub(1);
-    for _ in 0..steps.len() {
+    let mut at = last;
+    for _step in 0..steps.len() {
         if at < steps.len() && steps[at].from < steps.len() {
             way.push(steps[at].class)?;
             at = steps[at].from;
@@ -289,28 +309,56 @@ fn way_of(alloc: Global, steps: &[Step]) -> Result<Vec<u32>, AllocError> {
     Ok(way)
 }
 
-/// The part of the way that costs least to look for, `least` at least and `most` at most, of those that are on the other way too.
+/// The part of the way that costs least to look for, and no more than `most`, of those that are on the other way too and have none of the
+/// refused ones.
 fn best_part(
     weights: &[u32; 256],
     way: &[u32],
     other: &[u32],
-    least: u64,
+    refused: &[Part],
     most: u64,
 ) -> Option<Part> {
     let mut best: Option<Part> = None;
     for at in 0..way.len() {
-        for long in 1..LONGEST + 1 {
-            let cost = cost_of(weights, way, at, long);
-            if cost >= least
-                && is_better(best, cost, most)
-                && is_string(way, at, long)
-                && has_part(other, way, at, long)
-            {
-                best = Some(Part { at, long, cost });
-            }
+        best = better_part(weights, (way, other), refused, most, at, best);
+    }
+    best
+}
+
+/// The best one so far, or a better one that begins at this place of the first way.
+fn better_part(
+    weights: &[u32; 256],
+    ways: (&[u32], &[u32]),
+    refused: &[Part],
+    most: u64,
+    at: usize,
+    so_far: Option<Part>,
+) -> Option<Part> {
+    let (way, other) = ways;
+    let mut best = so_far;
+    for long in 1..LONGEST + 1 {
+        let cost = cost_of(weights, way, at, long);
+        let part = Part { at, long, cost };
+        if is_better(best, cost, most)
+            && is_string(way, at, long)
+            && !has_refused(refused, part)
+            && has_part(other, way, at, long)
+        {
+            best = Some(part);
         }
     }
     best
+}
+
+/// Whether one of the refused parts stands in the part.
+fn has_refused(refused: &[Part], part: Part) -> bool {
+    let end = part.at.saturating_add(part.long);
+    for inner in refused {
+        if inner.at >= part.at && inner.at.saturating_add(inner.long) <= end {
+            return true;
+        }
+    }
+    false
 }
 
 /// Whether a part of this cost is better than the best one so far, and costs no more than `most`.
@@ -389,10 +437,7 @@ fn reached_before(
     classes: &[u32],
     string: &[u32],
 ) -> Result<Option<Vec<Reached>>, AllocError> {
-    let mut reached: Vec<Reached> = Vec::new(alloc);
-    for i in 0..places.fresh.len() {
-        add(&mut reached, places.fresh[i].row, 0)?;
-    }
+    let mut reached = first_reached(alloc, places)?;
     for next in 0..MOST_REACHED {
         if next >= reached.len() {
             return Ok(Some(reached));
@@ -403,6 +448,15 @@ fn reached_before(
         }
     }
     Ok(None)
+}
+
+/// The rows in which a search begins, with nothing of a string before them. The error is want of memory.
+fn first_reached(alloc: Global, places: &CellPlaces) -> Result<Vec<Reached>, AllocError> {
+    let mut reached: Vec<Reached> = Vec::new(alloc);
+    for i in 0..places.fresh.len() {
+        add(&mut reached, places.fresh[i].row, 0)?;
+    }
+    Ok(reached)
 }
 
 /// Adds the row, unless it is there with as many characters of the string before it. The error is want of memory.
