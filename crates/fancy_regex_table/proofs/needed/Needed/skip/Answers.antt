@@ -1,4 +1,4 @@
-use Rattle.std.proofs.Common.{◌<◌, length}
+use Rattle.std.proofs.Common.{◌<◌, true, length}
 use Rattle.fancy_regex_stops.specs.Stops.{Covers}
 use Rattle.fancy_regex_table.proofs.MisfitLemmas.{short_passed, pair_passed}
 use Rattle.fancy_regex_table.proofs.needed.Needed.skip.Goals as goal
