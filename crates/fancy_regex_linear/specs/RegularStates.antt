@@ -32,6 +32,6 @@ pub record IsMadeFor (pattern : Pattern) : Type 0 where
   pub regular : IsWrittenOut pattern.groups pattern.tree
   pub light : written_weight pattern.groups pattern.tree ≤ 4000
 
--- An error comes only where the pattern has states; or it is want of memory, and the tree has calls, so that this is not known yet.
+-- An error comes only where the pattern has states; or it is want of memory, and the tree is not regular by itself, so that this is not known yet.
 abbrev pub IsMadeOrShort : Pattern → CompileError → Type 0
 IsMadeOrShort pattern error = IsMadeFor pattern ⊎ ((error ≡ Memory) × (IsRegular (λ j. ⊥) pattern.tree → ⊥))

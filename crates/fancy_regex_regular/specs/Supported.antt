@@ -11,6 +11,6 @@ pub record IsSupported (pattern : Pattern) : Type 0 where
   pub regular : IsWrittenOut pattern.groups pattern.tree
   pub light : written_weight pattern.groups pattern.tree ≤ 4000
 
--- An error comes only where the pattern is supported; or it is want of memory, and the tree has calls, so that this is not known yet.
+-- An error comes only where the pattern is supported; or it is want of memory, and the tree is not regular by itself, so that this is not known yet.
 abbrev pub IsSupportedOrShort : Pattern → CompileError → Type 0
 IsSupportedOrShort pattern error = IsSupported pattern ⊎ ((error ≡ Memory) × (IsRegular (λ j. ⊥) pattern.tree → ⊥))
