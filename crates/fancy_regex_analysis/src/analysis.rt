@@ -55,7 +55,7 @@ pub fn analyze<'a>(
     let groups = groups_of(alloc, &tree.expr, context.explicit_capture_group_0)?;
     check_references(alloc, &tree.expr, groups.len())?;
     check_termination(alloc, &tree.expr, &groups)?;
-    let sizes = group_call_sizes(alloc, &groups)?;
+    let sizes = group_call_sizes(alloc, &tree.expr, context.explicit_capture_group_0)?;
     let info = analyze_tree(alloc, &tree.expr, &groups, &sizes, context)?;
     check_root(&info, context)?;
     check_left_recursion(alloc, &groups, &sizes)?;

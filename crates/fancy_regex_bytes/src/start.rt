@@ -13,7 +13,7 @@ use crate::class_bytes::{
     add_class_starts, add_literal_starts, add_newline_starts, first_character,
 };
 use fancy_regex_class::ClassError;
-use fancy_regex_info::{Size, group_call_sizes, groups_of, size_in};
+use fancy_regex_info::{Size, group_call_sizes, size_in};
 use fancy_regex_tree::{AstNode, Expr};
 use std::alloc::{AllocError, Global};
 
@@ -25,8 +25,7 @@ pub fn start_bytes(alloc: Global, expr: &Expr, unicode: bool) -> Result<Option<B
     ensures law { IfOk result (λ found. IfSome found (λ set. StartBytesHold unicode (tree_of expr.now) (has set))) }
     ensures refused { IfErr result (IsStartError unicode (tree_of expr.now)) }
 {
-    let groups = groups_of(alloc, expr, false)?;
-    let sizes = group_call_sizes(alloc, &groups)?;
+    let sizes = group_call_sizes(alloc, expr, false)?;
     if is_skippable(expr, &sizes) {
         return Ok(None);
     }

@@ -62,7 +62,7 @@ fn searched_delegate(
     ensures refused { IfErr result (IsPartCause unicode for_any (tree_of part.now)) }
 {
     let groups = groups_of(alloc, searched, false)?;
-    let sizes = group_call_sizes(alloc, &groups)?;
+    let sizes = group_call_sizes(alloc, searched, false)?;
     let info = analyze_tree(alloc, searched, &groups, &sizes, AnalyzeContext::default())?;
     if !is_light_part(&info) {
         return Ok(None);

@@ -32,25 +32,32 @@ numbers_fit : (explicit : Bool) (t : Tree) → (pattern_in explicit t).first_gro
 numbers_fit true t = omega (arith, groups_are_counted t)
 numbers_fit false t = omega (arith, groups_are_counted t)
 
-pub sizes_known : (gs : List (Bor Expr)) (calls : List (Vec ℕ Global)) (recursive : List Bool) (sizes : List code.Size) →
-    rows calls ≡ map calls_in (map body_tree gs) →
-    ((k : ℕ) → k < length calls → get_or recursive k false ≡ is_on_cycle (rows calls) k) →
-    ((k : ℕ) → size_at sizes k ≡ iterated_size (map body_tree gs) recursive (length gs) k) → AreCallSizes (map body_tree gs) sizes
-sizes_known gs calls recursive sizes made flags settled =
-    let ts : List Tree = map body_tree gs in
-    let long : length ts ≡ length gs = length_trees gs in
-    let lines : length calls ≡ length ts = sym (length_rows calls) ∙ ap length made ∙ length_calls_in ts in
-    knows ts recursive
-    (λ k lt. reads_at recursive k ∙ flags k (omega (arith, lines)) ∙ ap (λ edges. is_on_cycle edges k) made)
-    sizes (λ k. settled k ∙ ap (λ m. iterated_size ts recursive m k) (sym long))
+rows_are : (gs : List (Bor Expr)) (ts : List Tree) (calls : List (Vec ℕ Global)) → map body_tree gs ≡ ts → rows calls ≡ map calls_in (map body_tree gs) →
+    rows calls ≡ map calls_in ts
+rows_are gs ts calls are made = made ∙ ap (map calls_in) are
 
-pub sizes_known_of : (gs : List (Bor Expr)) (calls : List (Vec ℕ Global)) (recursive : List Bool) (r : Result (Vec code.Size Global) AllocError) →
-    rows calls ≡ map calls_in (map body_tree gs) →
+-- as many groups as rows of calls
+pub as_many : (gs : List (Bor Expr)) (ts : List Tree) (calls : List (Vec ℕ Global)) → map body_tree gs ≡ ts → rows calls ≡ map calls_in (map body_tree gs) →
+    length calls ≡ length ts
+as_many gs ts calls are made = sym (length_rows calls) ∙ ap length (rows_are gs ts calls are made) ∙ length_calls_in ts
+
+pub sizes_known : (gs : List (Bor Expr)) (ts : List Tree) (calls : List (Vec ℕ Global)) (recursive : List Bool) (sizes : List code.Size) →
+    map body_tree gs ≡ ts → rows calls ≡ map calls_in (map body_tree gs) → length recursive ≡ length calls →
     ((k : ℕ) → k < length calls → get_or recursive k false ≡ is_on_cycle (rows calls) k) →
-    IfOk r (λ sizes. (k : ℕ) → size_at sizes.items k ≡ iterated_size (map body_tree gs) recursive (length gs) k) →
-    IfOk r (λ sizes. AreCallSizes (map body_tree gs) sizes.items)
-sizes_known_of gs calls recursive (Err e) made flags settled = tt
-sizes_known_of gs calls recursive (Ok sizes) made flags settled = sizes_known gs calls recursive sizes.items made flags settled
+    ((k : ℕ) → size_at sizes k ≡ iterated_size ts recursive (length recursive) k) → AreCallSizes ts sizes
+sizes_known gs ts calls recursive sizes are made marked flags settled =
+    let many : length calls ≡ length ts = as_many gs ts calls are made in
+    knows ts recursive
+    (λ k lt. reads_at recursive k ∙ flags k (omega (arith, many)) ∙ ap (λ edges. is_on_cycle edges k) (rows_are gs ts calls are made))
+    sizes (λ k. settled k ∙ ap (λ m. iterated_size ts recursive m k) (marked ∙ many))
+
+pub sizes_known_of : (gs : List (Bor Expr)) (ts : List Tree) (calls : List (Vec ℕ Global)) (recursive : List Bool) (r : Result (Vec code.Size Global) AllocError) →
+    map body_tree gs ≡ ts → rows calls ≡ map calls_in (map body_tree gs) → length recursive ≡ length calls →
+    ((k : ℕ) → k < length calls → get_or recursive k false ≡ is_on_cycle (rows calls) k) →
+    IfOk r (λ sizes. (k : ℕ) → size_at sizes.items k ≡ iterated_size ts recursive (length recursive) k) →
+    IfOk r (λ sizes. AreCallSizes ts sizes.items)
+sizes_known_of gs ts calls recursive (Err e) are made marked flags settled = tt
+sizes_known_of gs ts calls recursive (Ok sizes) are made marked flags settled = sizes_known gs ts calls recursive sizes.items are made marked flags settled
 
 pub whole : (explicit : Bool) (t : Tree) (gs : List (Bor Expr)) (read : List Bool) (sizes : List code.Size)
     (r : Result Info AllocError) (n : ℕ) → map body_tree gs ≡ (pattern_in explicit t).groups → AreCallSizes (map body_tree gs) sizes →

@@ -9,6 +9,6 @@ pub mod AnalyzeNodeLemmas
 pub mod TreeLemmas
 pub mod TableLemmas
 pub mod CallSizeLemmas
-pub mod SameSizeLemmas
+pub mod BodySizeLemmas
 pub mod ReferencedGroupLemmas
 pub mod AnalyzeTreeLemmas

@@ -58,22 +58,6 @@ marked_more calls xs ys g y long is now before k lt =
     get_last (b ∷ bs) c zero h = absurd (omega arith)
     get_last (b ∷ bs) c (suc i) h = get_last bs c i (omega arith)
 
-at_left : (xs : List code.Size) (y : code.Size) (k : ℕ) → k < length xs → size_at (xs ++ y ∷ []) k ≡ size_at xs k
-at_left [] y k h = absurd (omega arith)
-at_left (x ∷ xs) y zero h = refl
-at_left (x ∷ xs) y (suc k) h = at_left xs y k (omega arith)
-
-at_last : (xs : List code.Size) (y : code.Size) (k : ℕ) → k ≡ length xs → size_at (xs ++ y ∷ []) k ≡ size_of y
-at_last [] y zero h = refl
-at_last [] y (suc k) h = absurd (omega arith)
-at_last (x ∷ xs) y zero h = absurd (omega arith)
-at_last (x ∷ xs) y (suc k) h = at_last xs y k (omega arith)
-
-at_none : (xs : List code.Size) (k : ℕ) → length xs ≤ k → size_at xs k ≡ any_size
-at_none [] k h = refl
-at_none (x ∷ xs) zero h = absurd (omega arith)
-at_none (x ∷ xs) (suc k) h = at_none xs k (omega arith)
-
 pub body_at : (gs : List (Bor Expr)) (k : ℕ) (e : Bor Expr) → k < length gs → e ≡ get_or gs k e → target (map body_tree gs) k ≡ Some (body_tree e)
 body_at [] k e inside is = absurd (omega arith)
 body_at (g ∷ gs) zero e inside is = ap (λ x. Some (body_tree x)) (sym is)
@@ -84,52 +68,15 @@ no_body [] k h = refl
 no_body (g ∷ gs) zero h = absurd (omega arith)
 no_body (g ∷ gs) (suc k) h = no_body gs k (omega arith)
 
--- one size more
-pub sizes_more : (gs : List (Bor Expr)) (recursive : List Bool) (call : ℕ → Size) (xs ys : List code.Size) (g : ℕ) (y : code.Size) →
-    length xs ≡ g → ys ≡ xs ++ y ∷ [] → size_of y ≡ next_size (map body_tree gs) recursive call g →
-    ((k : ℕ) → k < g → size_at xs k ≡ next_size (map body_tree gs) recursive call k) →
-    (k : ℕ) → k < g + 1 → size_at ys k ≡ next_size (map body_tree gs) recursive call k
-sizes_more gs recursive call xs ys g y long made now before k lt =
-    ap (λ zs. size_at zs k) made
-    ∙ ⊎_elim
-    (λ (below : k < g). at_left xs y k (omega arith) ∙ before k below)
-    (λ (above : g ≤ k).
-    let here : g ≡ k = omega arith in
-    at_last xs y k (omega arith) ∙ now ∙ ap (next_size (map body_tree gs) recursive call) here)
-    (cases_lt k g)
-
--- the size by the body of a group that is there
-pub body_size : (gs : List (Bor Expr)) (recursive : List Bool) (call : ℕ → Size) (g : ℕ) (e : Bor Expr) → g < length gs → e ≡ get_or gs g e
-    → size_when (mark_at recursive g) (size_with call (body_tree e)) ≡ next_size (map body_tree gs) recursive call g
-body_size gs recursive call g e inside is =
-    sym (ap (size_of_target (λ body. size_when (mark_at recursive g) (size_with call body))) (body_at gs g e inside is))
-
--- nothing is known before the first iteration
-pub none_known : (n k : ℕ) → mark_at (replicate n false) k ≡ true → ⊥
-none_known zero k e = cc
-none_known (suc n) zero e = cc
-none_known (suc n) (suc k) e = none_known n k e
-
-pub sizes_all : (gs : List (Bor Expr)) (recursive : List Bool) (call : ℕ → Size) (xs : List code.Size) (g : ℕ) → length xs ≡ g → length gs ≤ g →
-    g ≤ length gs → ((k : ℕ) → k < g → size_at xs k ≡ next_size (map body_tree gs) recursive call k) →
-    (k : ℕ) → size_at xs k ≡ next_size (map body_tree gs) recursive call k
-sizes_all gs recursive call xs g long past within before k =
-    ⊎_elim
-    (λ (below : k < g). before k below)
-    (λ (above : g ≤ k).
-    at_none xs k (omega arith)
-    ∙ sym (ap (size_of_target (λ body. size_when (mark_at recursive k) (size_with call body))) (no_body gs k (omega arith))))
-    (cases_lt k g)
-
 -- before the first iteration
-pub first_iteration : (gs : List (Bor Expr)) (recursive : List Bool) (e : code.Size) (n : ℕ) → n ≡ length gs → size_of e ≡ endless_size →
-    (k : ℕ) → size_at (replicate n e) k ≡ iterated_size (map body_tree gs) recursive 0 k
+pub first_iteration : (ts : List Tree) (recursive : List Bool) (e : code.Size) (n : ℕ) → n ≡ length ts → size_of e ≡ endless_size →
+    (k : ℕ) → size_at (replicate n e) k ≡ iterated_size ts recursive 0 k
 unfolding iterated_size
 first_iteration [] recursive e zero same is k = refl
 first_iteration [] recursive e (suc n) same is k = absurd (omega arith)
-first_iteration (g ∷ gs) recursive e zero same is k = absurd (omega arith)
-first_iteration (g ∷ gs) recursive e (suc n) same is zero = is
-first_iteration (g ∷ gs) recursive e (suc n) same is (suc k) = first_iteration gs recursive e n (omega arith) is k
+first_iteration (t ∷ ts) recursive e zero same is k = absurd (omega arith)
+first_iteration (t ∷ ts) recursive e (suc n) same is zero = is
+first_iteration (t ∷ ts) recursive e (suc n) same is (suc k) = first_iteration ts recursive e n (omega arith) is k
 
 module _ (groups : List Tree) (recursive : List Bool) where
   abbrev S : ℕ → ℕ → Size

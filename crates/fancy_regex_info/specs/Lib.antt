@@ -7,5 +7,6 @@ pub mod References
 pub mod GroupNodes
 pub mod Reachability
 pub mod SizeFixpoint
+pub mod BodySizes
 pub mod Analysis
 pub mod Defaults

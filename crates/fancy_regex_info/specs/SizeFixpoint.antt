@@ -4,8 +4,6 @@ use Rattle.fancy_regex_tree.specs.Tree.{Tree}
 use Rattle.fancy_regex_meaning.specs.Sizes.{Size, unbounded, any_size, endless_size, size_with, target}
 use Rattle.fancy_regex_info.specs.Reachability.{has, following, through}
 use Rattle.fancy_regex_info.specs.AnalysisRelations.{mark_at}
-use Rattle.fancy_regex_info.specs.Views.{size_at}
-use Rattle.fancy_regex_info.specs.declared.size.Size as code
 
 -- the vertex is on a cycle
 abbrev pub is_on_cycle : List (List ℕ) → ℕ → Bool
@@ -28,12 +26,3 @@ next_size groups recursive call k = size_of_target (λ body. size_when (mark_at 
 unfoldable pub iterated_size : List Tree → List Bool → ℕ → ℕ → Size
 iterated_size groups recursive zero k = size_of_target (λ body. endless_size) (target groups k)
 iterated_size groups recursive (suc n) k = next_size groups recursive (iterated_size groups recursive n) k
-
--- calls of these groups have the same sizes in both tables
-abbrev pub HaveSameSizes : List ℕ → List code.Size → List code.Size → Type 0
-HaveSameSizes ks sizes next = (k : ℕ) → has ks k ≡ true → size_at sizes k ≡ size_at next k
-
--- an iteration does not change the sizes of the marked groups
-abbrev pub AreKnownSizes : List Tree → List Bool → List code.Size → List Bool → Type 0
-AreKnownSizes groups recursive sizes known =
-    (k : ℕ) → mark_at known k ≡ true → next_size groups recursive (size_at sizes) k ≡ size_at sizes k

@@ -4,6 +4,7 @@
 
 mod analyze_node;
 mod bodies;
+mod body_sizes;
 mod error;
 mod info;
 mod options;

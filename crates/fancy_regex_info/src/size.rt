@@ -53,7 +53,7 @@ pub(crate) fn endless() -> Size
 }
 
 /// The size of `\R`: one character, or two for CRLF.
-fn one_or_two() -> Size
+pub(crate) fn one_or_two() -> Size
     ensures { meant result ≡ newline_size }
 {
     Size {

@@ -1,16 +1,19 @@
 //! Tables indexed by group number: which groups each body calls, which groups are recursive, and the sizes of calls, which
 //! are found by fixpoint iteration.
 
-ghost use Rattle.std.specs.Prelude.{◌≡◌, ℕ, ◌<◌, true, false, map, length, IfOk, IsTrue, slice_index_or};
+ghost use Rattle.std.specs.Prelude.{◌≡◌, ℕ, ◌<◌, false, map, length, IfOk, IsTrue, slice_get, slice_index_or};
+ghost use Rattle.fancy_regex_tree.specs.Tree.{tree_of};
 ghost use Rattle.fancy_regex_meaning.specs.Sizes.{calls_in};
-ghost use Rattle.fancy_regex_info.specs.Reachability.{rows, following};
-ghost use Rattle.fancy_regex_info.specs.SizeFixpoint.{is_on_cycle, size_when, next_size as next_size_of, iterated_size, AreKnownSizes, HaveSameSizes};
+ghost use Rattle.fancy_regex_info.specs.Reachability.{rows};
+ghost use Rattle.fancy_regex_info.specs.SizeFixpoint.{is_on_cycle, size_when, next_size, iterated_size};
+ghost use Rattle.fancy_regex_info.specs.BodySizes.{called, from_last};
 ghost use Rattle.fancy_regex_info.specs.AnalysisRelations.{mark_at};
-ghost use Rattle.fancy_regex_info.specs.Views.{size_of as meant, size_at, body_tree};
+ghost use Rattle.fancy_regex_info.specs.Views.{size_of as meant, size_at, body_tree, pattern_in};
 
 use crate::bodies::add_calls;
+use crate::body_sizes::add_body_sizes;
 use crate::reachability::reachable;
-use crate::size::{Size, endless, size_in, size_of_call};
+use crate::size::{Size, endless};
 use fancy_regex_tree::Expr;
 use std::alloc::{AllocError, Global};
 
@@ -64,99 +67,61 @@ pub(crate) fn is_marked(marks: &[bool], group: usize) -> bool
     }
 }
 
-/// The size of a call of each group, where `calls[k]` are the groups that group `k` calls. Each iteration follows calls one level deeper;
-/// it stops as soon as an iteration changes nothing, after as many iterations as there are groups at most. A body is looked at again only
-/// where the size of a call in it has changed.
+/// The size of a call of each group of the tree, by group number, where `recursive` tells of each whether it can call itself. With `explicit`
+/// group 0 is the first group of the tree; without, group 0 is the whole tree. Each iteration follows calls one level deeper; it stops as soon
+/// as an iteration changes nothing, after as many iterations as there are groups at most. The error is want of memory.
 pub(crate) fn call_sizes(
     alloc: Global,
-    groups: &[&Expr],
-    calls: &[Vec<usize>],
+    expr: &Expr,
+    explicit: bool,
     recursive: &[bool],
 ) -> Result<Vec<Size>, AllocError>
-    requires { rows calls.now ≡ map calls_in (map body_tree groups.now) }
-    ensures { IfOk result (λ sizes. (k : ℕ)
-        → size_at sizes.items k ≡ iterated_size (map body_tree groups.now) recursive.now (length groups.now) k) }
+    requires { length recursive.now ≡ length (pattern_in explicit (tree_of expr.now)).groups }
+    ensures { IfOk result (λ sizes. (k : ℕ) → size_at sizes.items k
+        ≡ iterated_size (pattern_in explicit (tree_of expr.now)).groups recursive.now (length recursive.now) k) }
 {
-    let mut sizes = vec![in alloc; endless(); groups.len()]?;
-    let mut known = vec![in alloc; false; groups.len()]?;
-    for _iteration in 0..groups.len() {
-        let next = next_sizes(alloc, groups, recursive, &sizes, &known)?;
+    let mut sizes = vec![in alloc; endless(); recursive.len()]?;
+    for _iteration in 0..recursive.len() {
+        let next = next_sizes(alloc, expr, explicit, recursive, &sizes)?;
         if are_same(&next, &sizes) {
             return Ok(sizes);
         }
-        known = unchanged_groups(alloc, calls, &sizes, &next)?;
         sizes = next;
     }
     Ok(sizes)
 }
 
-/// One iteration: the sizes with calls followed one level deeper. Those of the known groups stay.
+/// One iteration: the sizes with calls followed one level deeper, found in one walk over the tree. The error is want of memory.
 fn next_sizes(
     alloc: Global,
-    groups: &[&Expr],
+    expr: &Expr,
+    explicit: bool,
     recursive: &[bool],
     sizes: &[Size],
-    known: &[bool],
 ) -> Result<Vec<Size>, AllocError>
-    requires { AreKnownSizes (map body_tree groups.now) recursive.now sizes.now known.now }
-    ensures { IfOk result (λ next. (k : ℕ)
-        → size_at next.items k ≡ next_size_of (map body_tree groups.now) recursive.now (size_at sizes.now) k) }
+    ensures { IfOk result (λ next. (k : ℕ) → size_at next.items k
+        ≡ next_size (pattern_in explicit (tree_of expr.now)).groups recursive.now (size_at sizes.now) k) }
 {
-    let mut next = Vec::new(alloc);
-    for group in 0..groups.len() {
-        let size = next_size(groups, recursive, sizes, known, group);
-        next.push(size)?;
+    let mut bodies = Vec::new(alloc);
+    let whole = add_body_sizes(expr, sizes, &mut bodies)?;
+    if !explicit {
+        bodies.push(whole)?;
     }
-    Ok(next)
+    called_sizes(alloc, &bodies, recursive)
 }
 
-/// The size of a call of the group, with calls in its body followed one level deeper.
-fn next_size(
-    groups: &[&Expr],
-    recursive: &[bool],
-    sizes: &[Size],
-    known: &[bool],
-    group: usize,
-) -> Size
-    requires inside { group < length groups.now }
-    requires known { AreKnownSizes (map body_tree groups.now) recursive.now sizes.now known.now }
-    ensures { meant result ≡ next_size_of (map body_tree groups.now) recursive.now (size_at sizes.now) group }
+/// The size of a call of each group, from the sizes of the bodies, that of the last group first. The error is want of memory.
+fn called_sizes(alloc: Global, bodies: &[Size], recursive: &[bool]) -> Result<Vec<Size>, AllocError>
+    ensures { IfOk result (λ sizes. (k : ℕ) → size_at sizes.items k
+        ≡ called (mark_at recursive.now k) (slice_get (from_last bodies.now) k)) }
 {
-    if is_marked(known, group) {
-        return size_of_call(sizes, group);
+    let mut sizes = Vec::new(alloc);
+    for group in 0..bodies.len() {
+        let place = bodies.len() - 1 - group;
+        let size = called_size(bodies[place], is_marked(recursive, group));
+        sizes.push(size)?;
     }
-    let body = size_in(groups[group], sizes);
-    called_size(body, is_marked(recursive, group))
-}
-
-/// For each group, whether no call in it has another size in the second table than in the first, where `calls[k]` are the groups that group
-/// `k` calls. The error is want of memory.
-fn unchanged_groups(
-    alloc: Global,
-    calls: &[Vec<usize>],
-    sizes: &[Size],
-    next: &[Size],
-) -> Result<Vec<bool>, AllocError>
-    ensures { IfOk result (λ unchanged. (k : ℕ)
-        → mark_at unchanged.items k ≡ true → HaveSameSizes (following (rows calls.now) k) sizes.now next.now) }
-{
-    let mut unchanged = Vec::new(alloc);
-    for group in 0..calls.len() {
-        unchanged.push(have_same_sizes(&calls[group], sizes, next))?;
-    }
-    Ok(unchanged)
-}
-
-/// Whether calls of these groups have the same sizes in both tables.
-fn have_same_sizes(groups: &[usize], sizes: &[Size], next: &[Size]) -> bool
-    ensures { result ≡ true → HaveSameSizes groups.now sizes.now next.now }
-{
-    for group in groups {
-        if size_of_call(sizes, *group) != size_of_call(next, *group) {
-            return false;
-        }
-    }
-    true
+    Ok(sizes)
 }
 
 /// The size of a call, from the size of the body: a recursive group has no upper bound.

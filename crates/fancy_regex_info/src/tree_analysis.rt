@@ -8,6 +8,7 @@ ghost use Rattle.fancy_regex_info.specs.AnalysisRelations.{AreCallSizes};
 ghost use Rattle.fancy_regex_info.specs.Views.{body_tree, pattern_in};
 
 use crate::analyze_node::analyze_node;
+use crate::bodies::groups_of;
 use crate::info::Info;
 use crate::options::AnalyzeContext;
 use crate::references::referenced_groups;
@@ -16,13 +17,15 @@ use crate::tables::{call_sizes, calls_by_group, recursive_groups};
 use fancy_regex_tree::Expr;
 use std::alloc::{AllocError, Global};
 
-/// The size of a call of each group, from the bodies of the groups, indexed by group number. Fails only if memory runs out.
-pub fn group_call_sizes(alloc: Global, groups: &[&Expr]) -> Result<Vec<Size>, AllocError>
-    ensures { IfOk result (λ sizes. AreCallSizes (map body_tree groups.now) sizes.items) }
+/// The size of a call of each group of the tree, by group number. With `explicit` group 0 is the first group of the tree; without, group 0
+/// is the whole tree. Fails only if memory runs out.
+pub fn group_call_sizes(alloc: Global, expr: &Expr, explicit: bool) -> Result<Vec<Size>, AllocError>
+    ensures { IfOk result (λ sizes. AreCallSizes (pattern_in explicit (tree_of expr.now)).groups sizes.items) }
 {
-    let calls = calls_by_group(alloc, groups)?;
+    let groups = groups_of(alloc, expr, explicit)?;
+    let calls = calls_by_group(alloc, &groups)?;
     let recursive = recursive_groups(alloc, &calls)?;
-    call_sizes(alloc, groups, &calls, &recursive)
+    call_sizes(alloc, expr, explicit, &recursive)
 }
 
 /// Analyzes the whole tree. `groups` holds the bodies of its groups and `sizes` the sizes of calls of them, both indexed by

@@ -13,7 +13,7 @@ ghost use Rattle.fancy_regex_linear.specs.Translation.{all_trees, AddsMatchers, 
 ghost use Rattle.fancy_regex_info.specs.AnalysisRelations.{AreCallSizes, mark_at};
 ghost use Rattle.fancy_regex_linear.specs.CallMarks.{IsCalleeOf, MakesLevel, WritesCalls};
 ghost use Rattle.fancy_regex_linear.specs.CalledClasses.{IsReached, IsBodyCause};
-ghost use Rattle.fancy_regex_info.specs.Views.{body_tree};
+ghost use Rattle.fancy_regex_info.specs.Views.{body_tree, pattern_in};
 ghost use Rattle.fancy_regex_linear.specs.Refusals.{IsRead, IsClassCause};
 ghost use Rattle.fancy_regex_info.specs.declared.error.CompileError.TheVariants as errors;
 ghost use Rattle.fancy_regex_class.specs.Matchers.{IsMatcherOf};
@@ -346,7 +346,13 @@ impl Translator {
 
     /// Translates the bodies of the groups that are called from the tree, as deep as calls may nest, so that calls in it can be translated.
     /// The groups are counted from where they were counted before. The error is that of a class.
-    pub fn write_calls(&mut self, expr: &Expr, bodies: &[&Expr]) -> Result<(), CompileError>
+    pub fn write_calls(
+        &mut self,
+        expr: &Expr,
+        bodies: &[&Expr],
+        explicit: bool,
+    ) -> Result<(), CompileError>
+        requires { map body_tree bodies.now ≡ (pattern_in explicit (tree_of expr.now)).groups }
         ensures unicode { self.new.unicode ≡ self.old.unicode }
         ensures groups { IfOk result (λ _. self.new.next_group ≡ self.old.next_group) }
         ensures sizes { IfOk result (λ _. AreCallSizes (map body_tree bodies.now) self.new.sizes.items) }
@@ -356,7 +362,7 @@ impl Translator {
             (IsReached (map body_tree bodies.now) (tree_of expr.now))) }
     {
         let first = self.next_group;
-        let sizes = group_call_sizes(self.alloc, bodies)?;
+        let sizes = group_call_sizes(self.alloc, expr, explicit)?;
         self.sizes = sizes;
         let tables = called_by_depth(self.alloc, expr, bodies)?;
         let nesting = greatest_nesting(bodies.len());

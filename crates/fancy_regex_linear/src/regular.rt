@@ -93,7 +93,7 @@ impl RegularStates {
         let explicit = info.start_group() == 0;
         let bodies = groups_of(alloc, info.expr, explicit)?;
         let mut translator = Translator::new(alloc, options.unicode, explicit);
-        translator.write_calls(info.expr, &bodies)?;
+        translator.write_calls(info.expr, &bodies, explicit)?;
         let translated = translator.translated(info.expr)?;
         let mut states = Vec::new(alloc);
         add(&mut states, State::Match)?;

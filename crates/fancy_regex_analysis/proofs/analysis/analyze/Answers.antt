@@ -28,6 +28,11 @@ returns-in_err-check_references-clause-refused c =
     (node_error_holds c.args.context mark t c.len.result e
     (omega (arith, c.len.ensures, gs.ok.0, length_trees gs.items, ap length c.in_ok-groups.ensures)) c.in_err-check_references.ensures.refused)
 
+pub analyze_tree-requires-clause-known : goal.analyze_tree-requires-clause-known
+analyze_tree-requires-clause-known c =
+    subst (λ s. AreCallSizes (map body_tree c.deref-2.result.now) s) (sym c.deref-3.ensures.value)
+    (subst (λ ts. AreCallSizes ts c.in_ok-sizes.sizes.items) (sym (ap (map body_tree) c.deref-2.ensures.value ∙ c.in_ok-groups.ensures)) c.in_ok-sizes.ensures)
+
 pub returns-in_err-check_root-clause-refused : goal.returns-in_err-check_root-clause-refused
 returns-in_err-check_root-clause-refused c =
     let e = c.in_err-check_root.field-0.0 in
@@ -41,13 +46,13 @@ returns-in_err-check_left_recursion-clause-refused c =
     let e = c.in_err-check_left_recursion.field-0.0 in
     let t = tree_of c.args.tree.now.expr in
     let mark = c.args.tree.now.named_backref_only in
-    let gs = c.deref-5.result.now in
-    let sizes = c.deref-6.result.now in
+    let gs = c.deref-4.result.now in
+    let sizes = c.deref-5.result.now in
     let known : AreCallSizes (map body_tree gs) sizes =
-    subst (λ g. AreCallSizes (map body_tree g) sizes) (c.deref-2.ensures.value ∙ sym c.deref-5.ensures.value)
-    (subst (λ s. AreCallSizes (map body_tree c.deref-2.result.now) s) (sym c.deref-6.ensures.value) c.in_ok-sizes.ensures) in
+    subst (λ s. AreCallSizes (map body_tree gs) s) (sym c.deref-5.ensures.value)
+    (subst (λ ts. AreCallSizes ts c.in_ok-sizes.sizes.items) (sym (ap (map body_tree) c.deref-4.ensures.value ∙ c.in_ok-groups.ensures)) c.in_ok-sizes.ensures) in
     gives c.from_residual-in_err-check_left_recursion.result e (IsMemoryOrHolds c.args.context mark t) c.from_residual-in_err-check_left_recursion.ensures.1
-    (start_error_holds c.args.context mark t (map body_tree gs) sizes e (ap (map body_tree) c.deref-5.ensures.value ∙ c.in_ok-groups.ensures) known
+    (start_error_holds c.args.context mark t (map body_tree gs) sizes e (ap (map body_tree) c.deref-4.ensures.value ∙ c.in_ok-groups.ensures) known
     c.in_err-check_left_recursion.ensures.refused)
 
 pub returns-in_err-check_emitted_parts-clause-refused : goal.returns-in_err-check_emitted_parts-clause-refused
@@ -55,13 +60,13 @@ returns-in_err-check_emitted_parts-clause-refused c =
     let e = c.in_err-check_emitted_parts.field-0.0 in
     let t = tree_of c.args.tree.now.expr in
     let mark = c.args.tree.now.named_backref_only in
-    let gs = c.deref-7.result.now in
-    let sizes = c.deref-8.result.now in
+    let gs = c.deref-6.result.now in
+    let sizes = c.deref-7.result.now in
     let known : AreCallSizes (map body_tree gs) sizes =
-    subst (λ g. AreCallSizes (map body_tree g) sizes) (c.deref-2.ensures.value ∙ sym c.deref-7.ensures.value)
-    (subst (λ s. AreCallSizes (map body_tree c.deref-2.result.now) s) (sym c.deref-8.ensures.value) c.in_ok-sizes.ensures) in
+    subst (λ s. AreCallSizes (map body_tree gs) s) (sym c.deref-7.ensures.value)
+    (subst (λ ts. AreCallSizes ts c.in_ok-sizes.sizes.items) (sym (ap (map body_tree) c.deref-6.ensures.value ∙ c.in_ok-groups.ensures)) c.in_ok-sizes.ensures) in
     gives c.from_residual-in_err-check_emitted_parts.result e (IsMemoryOrHolds c.args.context mark t) c.from_residual-in_err-check_emitted_parts.ensures.1
-    (part_error_holds c.args.context mark t (map body_tree gs) sizes e (ap (map body_tree) c.deref-7.ensures.value ∙ c.in_ok-groups.ensures) known
+    (part_error_holds c.args.context mark t (map body_tree gs) sizes e (ap (map body_tree) c.deref-6.ensures.value ∙ c.in_ok-groups.ensures) known
     c.in_err-check_emitted_parts.ensures.refused)
 
 pub returns-clause-complete : goal.returns-clause-complete
@@ -69,23 +74,23 @@ returns-clause-complete c =
     let t = tree_of c.args.tree.now.expr in
     let mark = c.args.tree.now.named_backref_only in
     let own = c.in_ok-groups.groups in
-    let gs = c.deref-5.result.now in
-    let sizes = c.deref-6.result.now in
+    let gs = c.deref-4.result.now in
+    let sizes = c.deref-5.result.now in
     let known : AreCallSizes (map body_tree gs) sizes =
-    subst (λ g. AreCallSizes (map body_tree g) sizes) (c.deref-2.ensures.value ∙ sym c.deref-5.ensures.value)
-    (subst (λ s. AreCallSizes (map body_tree c.deref-2.result.now) s) (sym c.deref-6.ensures.value) c.in_ok-sizes.ensures) in
+    subst (λ s. AreCallSizes (map body_tree gs) s) (sym c.deref-5.ensures.value)
+    (subst (λ ts. AreCallSizes ts c.in_ok-sizes.sizes.items) (sym (ap (map body_tree) c.deref-4.ensures.value ∙ c.in_ok-groups.ensures)) c.in_ok-sizes.ensures) in
     none_passed c.args.context mark t (map body_tree gs) sizes (info_of c.in_ok-info.info) c.len.result
-    (ap (map body_tree) c.deref-5.ensures.value ∙ c.in_ok-groups.ensures) known c.in_ok-info.ensures
+    (ap (map body_tree) c.deref-4.ensures.value ∙ c.in_ok-groups.ensures) known c.in_ok-info.ensures
     (omega (arith, c.len.ensures, own.ok.0, length_trees own.items, ap length c.in_ok-groups.ensures))
     c.if-tree.false
     (no_invalid_node c.len.result t (sym c.has_reversed_bounds.ensures ∙ c.if-has_reversed_bounds.false) c.in_ok-check_references.ensures.complete)
-    (ap (λ g. never_ends (map body_tree g) t) (c.deref-5.ensures.value ∙ sym c.deref.ensures.value) ∙ c.in_ok-check_termination.ensures.complete)
+    (ap (λ g. never_ends (map body_tree g) t) (c.deref-4.ensures.value ∙ sym c.deref.ensures.value) ∙ c.in_ok-check_termination.ensures.complete)
     c.in_ok-check_root.ensures.complete
     (λ k lt. c.in_ok-check_left_recursion.ensures.complete k (omega (arith, lt, length_trees gs)))
     (subst (λ g. (i : Inside) (u : Tree) → IsWhole (map body_tree g) t i u → some_emitted (is_unsupported (size_with (size_at sizes))) i u ≡ false)
-    (c.deref-7.ensures.value ∙ sym c.deref-5.ensures.value)
-    (subst (λ s. (i : Inside) (u : Tree) → IsWhole (map body_tree c.deref-7.result.now) t i u → some_emitted (is_unsupported (size_with (size_at s))) i u ≡ false)
-    (c.deref-8.ensures.value ∙ sym c.deref-6.ensures.value) c.in_ok-check_emitted_parts.ensures.complete))
+    (c.deref-6.ensures.value ∙ sym c.deref-4.ensures.value)
+    (subst (λ s. (i : Inside) (u : Tree) → IsWhole (map body_tree c.deref-6.result.now) t i u → some_emitted (is_unsupported (size_with (size_at s))) i u ≡ false)
+    (c.deref-7.ensures.value ∙ sym c.deref-5.ensures.value) c.in_ok-check_emitted_parts.ensures.complete))
 
 pub returns-clause-nodes : goal.returns-clause-nodes
 returns-clause-nodes c =
@@ -98,14 +103,14 @@ returns-clause-nodes c =
 pub returns-clause-parts : goal.returns-clause-parts
 returns-clause-parts c =
     let t = tree_of c.args.tree.now.expr in
-    let gs = c.deref-5.result.now in
-    let sizes = c.deref-6.result.now in
+    let gs = c.deref-4.result.now in
+    let sizes = c.deref-5.result.now in
     let known : AreCallSizes (map body_tree gs) sizes =
-    subst (λ g. AreCallSizes (map body_tree g) sizes) (c.deref-2.ensures.value ∙ sym c.deref-5.ensures.value)
-    (subst (λ s. AreCallSizes (map body_tree c.deref-2.result.now) s) (sym c.deref-6.ensures.value) c.in_ok-sizes.ensures) in
+    subst (λ s. AreCallSizes (map body_tree gs) s) (sym c.deref-5.ensures.value)
+    (subst (λ ts. AreCallSizes ts c.in_ok-sizes.sizes.items) (sym (ap (map body_tree) c.deref-4.ensures.value ∙ c.in_ok-groups.ensures)) c.in_ok-sizes.ensures) in
     no_stopped_part c.args.context c.args.tree.now.named_backref_only t (map body_tree gs) sizes
-    (ap (map body_tree) c.deref-5.ensures.value ∙ c.in_ok-groups.ensures) known
+    (ap (map body_tree) c.deref-4.ensures.value ∙ c.in_ok-groups.ensures) known
     (subst (λ g. (i : Inside) (u : Tree) → IsWhole (map body_tree g) t i u → some_emitted (is_unsupported (size_with (size_at sizes))) i u ≡ false)
-    (c.deref-7.ensures.value ∙ sym c.deref-5.ensures.value)
-    (subst (λ s. (i : Inside) (u : Tree) → IsWhole (map body_tree c.deref-7.result.now) t i u → some_emitted (is_unsupported (size_with (size_at s))) i u ≡ false)
-    (c.deref-8.ensures.value ∙ sym c.deref-6.ensures.value) c.in_ok-check_emitted_parts.ensures.complete))
+    (c.deref-6.ensures.value ∙ sym c.deref-4.ensures.value)
+    (subst (λ s. (i : Inside) (u : Tree) → IsWhole (map body_tree c.deref-6.result.now) t i u → some_emitted (is_unsupported (size_with (size_at s))) i u ≡ false)
+    (c.deref-7.ensures.value ∙ sym c.deref-5.ensures.value) c.in_ok-check_emitted_parts.ensures.complete))

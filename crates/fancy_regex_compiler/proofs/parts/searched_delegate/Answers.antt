@@ -1,8 +1,10 @@
-use Rattle.std.proofs.Common.{rules, ◌≡◌, true, false, ap, ◌∙◌}
+use Rattle.std.proofs.Common.{rules, ◌≡◌, true, false, map, ap, sym, subst, ◌∙◌}
 use Rattle.fancy_regex_tree.specs.Tree.{tree_of}
 use Rattle.fancy_regex_tree.specs.Printable.{is_printable}
 use Rattle.fancy_regex_info.specs.Analysis.{analysis}
+use Rattle.fancy_regex_info.specs.AnalysisRelations.{AreCallSizes}
 use Rattle.fancy_regex_info.specs.Infos.{info_of}
+use Rattle.fancy_regex_info.specs.Views.{body_tree}
 use Rattle.fancy_regex_desugar.specs.Delegates as delegates
 use Rattle.fancy_regex_compiler.proofs.PartLemmas.{light_part_is, too_heavy, unprintable, is_part}
 use Rattle.fancy_regex_compiler.proofs.parts.searched_delegate.Goals as goal
@@ -21,6 +23,11 @@ returns-then-not-branch-clause-value c =
     let t = tree_of c.args.part.now in
     let off : is_printable t ≡ false = search rules in
     unprintable c.args.for_any t off
+
+pub analyze_tree-requires-clause-known : goal.analyze_tree-requires-clause-known
+analyze_tree-requires-clause-known c =
+    subst (λ s. AreCallSizes (map body_tree c.deref.result.now) s) (sym c.deref-2.ensures.value)
+    (subst (λ ts. AreCallSizes ts c.in_ok-sizes.sizes.items) (sym (ap (map body_tree) c.deref.ensures.value ∙ c.in_ok-groups.ensures)) c.in_ok-sizes.ensures)
 
 pub new-requires-clause-info : goal.new-requires-clause-info
 new-requires-clause-info c =

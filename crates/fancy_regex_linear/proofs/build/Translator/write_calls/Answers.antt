@@ -14,7 +14,7 @@ use Rattle.fancy_regex_linear.proofs.build.Translator.write_calls.Goals as goal
 pub loop-depth-init : goal.loop-depth-init
 loop-depth-init c = record {
   unicode = refl;
-  sized = c.in_ok-sizes.ensures;
+  sized = subst (λ ts. AreCallSizes ts c.in_ok-sizes.sizes.items) (sym c.requires) c.in_ok-sizes.ensures;
   level = λ no_matchers none. no_level (map body_tree c.args.bodies.now) c.args.self.now.unicode _ _ no_matchers none;
 }
 
