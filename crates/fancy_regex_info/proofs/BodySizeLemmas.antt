@@ -1,5 +1,5 @@
 -- What one walk over a tree finds of the bodies of its groups, and the sizes of calls that are made of it.
-use Rattle.std.proofs.Common.{◌≡◌, ℕ, zero, suc, ◌+◌, ◌-◌, ◌<◌, ◌≤◌, ⊎_elim, Bool, true, false, List, [], ◌∷◌, ◌++◌, Option, Some, None, map, length, drop, get_or, if◌then◌else◌, not, true≢false, Vec, Global, Result, Ok, Err, IfOk, refl, sym, ap, ap₂, ◌∙◌, arith, append_assoc, append-nil}
+use Rattle.std.proofs.Common.{◌≡◌, ℕ, zero, suc, ◌+◌, ◌-◌, ◌<◌, ◌≤◌, ⊎_elim, Bool, true, false, List, [], ◌∷◌, ◌++◌, Option, Some, None, map, length, drop, get_or, true≢false, Vec, Global, Result, Ok, Err, IfOk, refl, sym, ap, ap₂, ◌∙◌, arith, append_assoc, append-nil}
 use Rattle.std.specs.Prelude.{slice_get}
 use Rattle.std.specs.declared.alloc.AllocError.{AllocError}
 use Rattle.std.proofs.lemmas.Bool.{cases_lt}
@@ -87,14 +87,14 @@ module _ (call : ℕ → Size) where
         found_are t (row_body_sizes call ts rest) ∙ ap (λ zs. of (bodies t) ++ zs) (row_found_are ts rest) ∙ both_found (bodies t) (row_bodies ts) rest
 
   -- those of all groups, where group 0 is the whole or is not
-  pub explicit_found : (explicit : Bool) (t : Tree) (xs : List code.Size) → not explicit ≡ false → from_last xs ≡ body_sizes call t []
+  pub explicit_found : (explicit : Bool) (t : Tree) (xs : List code.Size) → explicit ≡ true → from_last xs ≡ body_sizes call t []
       → from_last xs ≡ of (pattern_in explicit t).groups
   explicit_found true t xs own is = is ∙ found_are t [] ∙ append-nil (of (bodies t))
-  explicit_found false t xs own is = absurd (true≢false own)
+  explicit_found false t xs own is = absurd (true≢false (sym own))
 
-  pub whole_found : (explicit : Bool) (t : Tree) (xs ys : List code.Size) (whole : code.Size) → not explicit ≡ true → from_last xs ≡ body_sizes call t []
+  pub whole_found : (explicit : Bool) (t : Tree) (xs ys : List code.Size) (whole : code.Size) → explicit ≡ false → from_last xs ≡ body_sizes call t []
       → size_of whole ≡ size_with call t → ys ≡ xs ++ whole ∷ [] → from_last ys ≡ of (pattern_in explicit t).groups
-  whole_found true t xs ys whole own is all made = absurd (true≢false (sym own))
+  whole_found true t xs ys whole own is all made = absurd (true≢false own)
   whole_found false t xs ys whole own is all made =
       ap from_last made ∙ from_last_more xs whole ∙ ap₂ (λ s zs. s ∷ zs) all (is ∙ found_are t [] ∙ append-nil (of (bodies t)))
 
@@ -148,17 +148,15 @@ as_long (x ∷ xs) = longer (from_last xs) (size_of x) ∙ ap suc (as_long xs)
     longer [] y = refl
     longer (z ∷ ys) y = ap suc (longer ys y)
 
-body_from_last : (xs : List code.Size) (k j : ℕ) (y : code.Size) → k < length xs → j + k + 1 ≡ length xs → y ≡ get_or xs j y
-    → slice_get (from_last xs) k ≡ Some (size_of y)
-body_from_last [] k j y inside from is = absurd (omega arith)
-body_from_last (x ∷ xs) k zero y inside from is =
-    get_last (from_last xs) (size_of x) k (omega (arith, from, as_long xs)) ∙ ap (λ z. Some (size_of z)) (sym is)
-body_from_last (x ∷ xs) k (suc j) y inside from is =
-    get_left (from_last xs) (size_of x) k (omega (arith, from, as_long xs)) ∙ body_from_last xs k j y (omega (arith, from)) (omega (arith, from)) is
+body_from_last : (xs : List code.Size) (k j : ℕ) → k < length xs → j + k + 1 ≡ length xs → slice_get (from_last xs) k ≡ Some (size_at xs j)
+body_from_last [] k j inside from = absurd (omega arith)
+body_from_last (x ∷ xs) k zero inside from = get_last (from_last xs) (size_of x) k (omega (arith, from, as_long xs))
+body_from_last (x ∷ xs) k (suc j) inside from =
+    get_left (from_last xs) (size_of x) k (omega (arith, from, as_long xs)) ∙ body_from_last xs k j (omega (arith, from)) (omega (arith, from))
 
 -- one call more
-pub calls_more : (bodies sizes next : List code.Size) (recursive : List Bool) (g j : ℕ) (body y : code.Size) → length sizes ≡ g
-    → g < length bodies → j + g + 1 ≡ length bodies → body ≡ get_or bodies j body → size_of y ≡ size_when (mark_at recursive g) (size_of body)
+pub calls_more : (bodies sizes next : List code.Size) (recursive : List Bool) (g j : ℕ) (body : Size) (y : code.Size) → length sizes ≡ g
+    → g < length bodies → j + g + 1 ≡ length bodies → body ≡ size_at bodies j → size_of y ≡ size_when (mark_at recursive g) body
     → next ≡ sizes ++ y ∷ []
     → ((k : ℕ) → k < g → size_at sizes k ≡ called (mark_at recursive k) (slice_get (from_last bodies) k))
     → (k : ℕ) → k < g + 1 → size_at next k ≡ called (mark_at recursive k) (slice_get (from_last bodies) k)
@@ -168,7 +166,8 @@ calls_more bodies sizes next recursive g j body y long inside from is now made b
     (λ (below : k < g). at_left sizes y k (omega arith) ∙ before k below)
     (λ (above : g ≤ k).
     let here : g ≡ k = omega arith in
-    at_last sizes y k (omega arith) ∙ now ∙ ap (called (mark_at recursive g)) (sym (body_from_last bodies g j body inside from is))
+    at_last sizes y k (omega arith) ∙ now ∙ ap (size_when (mark_at recursive g)) is
+    ∙ ap (called (mark_at recursive g)) (sym (body_from_last bodies g j inside from))
     ∙ ap (λ n. called (mark_at recursive n) (slice_get (from_last bodies) n)) here)
     (cases_lt k g)
   where

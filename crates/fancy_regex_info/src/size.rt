@@ -100,7 +100,14 @@ pub(crate) fn repeated(a: Size, lo: usize, hi: usize) -> Size
 pub(crate) fn size_of_call(calls: &[Size], group: usize) -> Size
     ensures { meant result ≡ size_at calls.now group }
 {
-    match calls.get(group) {
+    size_at_place(calls, group)
+}
+
+/// The size at this place of the table; any number of characters past its end.
+pub(crate) fn size_at_place(sizes: &[Size], place: usize) -> Size
+    ensures { meant result ≡ size_at sizes.now place }
+{
+    match sizes.get(place) {
         Some(size) => *size,
         None => any_size(),
     }

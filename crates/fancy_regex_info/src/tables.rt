@@ -13,7 +13,7 @@ ghost use Rattle.fancy_regex_info.specs.Views.{size_of as meant, size_at, body_t
 use crate::bodies::add_calls;
 use crate::body_sizes::add_body_sizes;
 use crate::reachability::reachable;
-use crate::size::{Size, endless};
+use crate::size::{Size, endless, size_at_place};
 use fancy_regex_tree::Expr;
 use std::alloc::{AllocError, Global};
 
@@ -117,8 +117,8 @@ fn called_sizes(alloc: Global, bodies: &[Size], recursive: &[bool]) -> Result<Ve
 {
     let mut sizes = Vec::new(alloc);
     for group in 0..bodies.len() {
-        let place = bodies.len() - 1 - group;
-        let size = called_size(bodies[place], is_marked(recursive, group));
+        let body = size_at_place(bodies, bodies.len() - 1 - group);
+        let size = called_size(body, is_marked(recursive, group));
         sizes.push(size)?;
     }
     Ok(sizes)

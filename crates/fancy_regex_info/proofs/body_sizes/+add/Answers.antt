@@ -6,6 +6,7 @@ use Rattle.fancy_regex_info.specs.BodySizes.{body_sizes, row_body_sizes, from_la
 use Rattle.fancy_regex_info.specs.Views.{size_at}
 use Rattle.fancy_regex_info.proofs.SizeLemmas.{row_end, row_step, branches_of_none, branches_end, branches_step}
 use Rattle.fancy_regex_info.proofs.BodySizeLemmas.{group_found, none_found, one_more_found, last_found}
+use Rattle.fancy_regex_info.proofs.TreeLemmas.{tree_group}
 use Rattle.fancy_regex_info.proofs.body_sizes.+add.Goals as goal
 
 pub add_body_sizes-returns-in_ok-push-in-Group-clause-adds : goal.add_body_sizes-returns-in_ok-push-in-Group-clause-adds
@@ -13,7 +14,8 @@ add_body_sizes-returns-in_ok-push-in-Group-clause-adds t c =
     let call = size_at c.args.calls.now in
     let rest = from_last c.args.sizes.now.items in
     let body = tree_of c.deref-in-Group.result.now in
-    let is : tree_of c.args.expr.now ≡ group body = search rules in
+    let is : tree_of c.args.expr.now ≡ group body =
+    ap tree_of c.in-Group.is ∙ tree_group c.in-Group.body ∙ ap (λ e. group (tree_of e)) (sym c.deref-in-Group.ensures) in
     group_found call body rest c.add_body_sizes.new.sizes.items c.push.new.self.items c.in_ok-size-in-Group.size c.in_ok-size-in-Group.ensures.adds
     c.in_ok-size-in-Group.ensures.size c.in_ok-push-in-Group.ensures.items
     ∙ sym (ap (λ u. body_sizes call u rest) is)
