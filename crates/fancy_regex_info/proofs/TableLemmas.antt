@@ -1,13 +1,13 @@
 -- Tables of what is known of each group, and how they are made in iterations.
-use Rattle.std.proofs.Common.{◌≡◌, ℕ, zero, suc, ◌+◌, ◌-◌, ◌<◌, ◌≤◌, ⊎_elim, Bool, true, false, List, [], ◌∷◌, ◌++◌, Some, None}
+use Rattle.std.proofs.Common.{◌≡◌, ℕ, zero, suc, ◌+◌, ◌-◌, ◌<◌, ◌≤◌, ⊎_elim, Bool, false, List, [], ◌∷◌, ◌++◌, Some, None}
 use Rattle.std.proofs.Common.{map, length, get_or, replicate, Vec, Global, Bor, refl, sym, ap, ap₂, ◌∙◌, arith}
 use Rattle.std.proofs.Math.Path.{fun_ext}
 use Rattle.std.proofs.lemmas.Bool.{cases_lt}
 use Rattle.fancy_regex_tree.specs.Tree.{Tree}
 use Rattle.fancy_regex_tree.specs.declared.expr.Expr.{Expr}
-use Rattle.fancy_regex_meaning.specs.Sizes.{Size, any_size, endless_size, size_with, target}
+use Rattle.fancy_regex_meaning.specs.Sizes.{Size, endless_size, target}
 use Rattle.fancy_regex_info.specs.Reachability.{rows, has, through}
-use Rattle.fancy_regex_info.specs.SizeFixpoint.{is_on_cycle, size_when, size_of_target, next_size, iterated_size}
+use Rattle.fancy_regex_info.specs.SizeFixpoint.{is_on_cycle, next_size, iterated_size}
 use Rattle.fancy_regex_info.specs.AnalysisRelations.{mark_at}
 use Rattle.fancy_regex_info.specs.Views.{size_of, size_at, body_tree}
 use Rattle.fancy_regex_info.specs.declared.size.Size as code

@@ -1,5 +1,5 @@
 -- Sizes of calls by fixpoint iteration: each iteration follows calls one level deeper.
-use Rattle.std.specs.Prelude.{◌≡◌, ℕ, zero, suc, Bool, true, false, List, length, Option, Some, None}
+use Rattle.std.specs.Prelude.{ℕ, zero, suc, Bool, true, false, List, length, Option, Some, None}
 use Rattle.fancy_regex_tree.specs.Tree.{Tree}
 use Rattle.fancy_regex_meaning.specs.Sizes.{Size, unbounded, any_size, endless_size, size_with, target}
 use Rattle.fancy_regex_info.specs.Reachability.{has, following, through}

@@ -1,4 +1,4 @@
-use Rattle.std.proofs.Common.{length, ap, sym, ◌≡◌, ◌∙◌, ℕ, rules, arith}
+use Rattle.std.proofs.Common.{length, ap, sym, ◌∙◌, rules, arith}
 use Rattle.fancy_regex_tree.specs.Tree.{tree_of}
 use Rattle.fancy_regex_info.specs.SizeFixpoint.{next_size, iterated_size}
 use Rattle.fancy_regex_info.specs.Views.{size_at, pattern_in}
