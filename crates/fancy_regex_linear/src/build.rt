@@ -345,7 +345,8 @@ impl Translator {
     }
 
     /// Translates the bodies of the groups that are called from the tree, as deep as calls may nest, so that calls in it can be translated.
-    /// The groups are counted from where they were counted before. The error is that of a class.
+    /// `bodies` are those of the groups of the tree; with `explicit` group 0 is the first of them, else the whole tree. The groups are counted
+    /// from where they were counted before. The error is that of a class.
     pub fn write_calls(
         &mut self,
         expr: &Expr,
