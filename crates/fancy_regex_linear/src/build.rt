@@ -344,9 +344,9 @@ impl Translator {
         }
     }
 
-    /// Translates the bodies of the groups that are called from the tree, as deep as calls may nest, so that calls in it can be translated.
-    /// `bodies` are those of the groups of the tree; with `explicit` group 0 is the first of them, else the whole tree. The groups are counted
-    /// from where they were counted before. The error is that of a class.
+    /// Translates the bodies of the groups that are called from the tree, as deep as calls may nest, so that calls in it can be
+    /// translated. `bodies` are those of the groups of the tree; with `explicit` group 0 is the first of them, else the whole tree. The
+    /// groups are counted from where they were counted before. The error is that of a class.
     pub fn write_calls(
         &mut self,
         expr: &Expr,
@@ -383,7 +383,8 @@ impl Translator {
     ) -> Result<Vec<Option<Callee>>, CompileError>
         ensures unicode { self.new.unicode ≡ self.old.unicode }
         ensures tables { (self.new.sizes ≡ self.old.sizes) × (self.new.called ≡ self.old.called) }
-        ensures level { IfOk result (λ next. MakesLevel (map body_tree bodies.now) marks.now self.old self.new next.items (length bodies.now)) }
+        ensures level { IfOk result (λ next. MakesLevel (map body_tree bodies.now) marks.now self.old self.new next.items
+            (length bodies.now)) }
         ensures refused { IfErr result (IsBodyCause self.old.unicode (map body_tree bodies.now) (λ j. mark_at marks.now j ≡ true)) }
     {
         let known = are_known(self.alloc, &self.called)?;
@@ -396,8 +397,8 @@ impl Translator {
         Ok(next)
     }
 
-    /// What a call of a group becomes that has this body and number, if it is called and each call in its body is known. The error is that of
-    /// a class.
+    /// What a call of a group becomes that has this body and number, if it is called and each call in its body is known. The error is that
+    /// of a class.
     fn callee_if(
         &mut self,
         is_called: bool,
@@ -429,7 +430,8 @@ impl Translator {
         ensures refused { IfErr result (IsClassCause self.old.unicode (classes (tree_of body.now))) }
         ensures shape { IfOk result (λ callee. IsWritable (tree_of body.now) → (groups : List Tree)
             → AreCallSizes groups self.old.sizes.items → shape callee.node
-            ≡ re_of self.old.unicode groups (called_in self.old.called.items) (group + 1) (length self.old.matchers.items) (tree_of body.now)) }
+            ≡ re_of self.old.unicode groups (called_in self.old.called.items) (group + 1) (length self.old.matchers.items)
+            (tree_of body.now)) }
     {
         self.next_group = group.checked_add(1).ok_or(CompileError::Memory)?;
         let Translated { node, moves } = self.translated(body)?;
@@ -464,7 +466,8 @@ impl Translator {
         ensures refused { IfErr result (IsClassCause self.old.unicode (classes (tree_of expr.now))) }
         ensures shape { IfOk result (λ translated. IsWritable (tree_of expr.now) → (groups : List Tree)
             → AreCallSizes groups self.old.sizes.items → shape translated.node
-            ≡ re_of self.old.unicode groups (called_in self.old.called.items) self.old.next_group (length self.old.matchers.items) (tree_of expr.now)) }
+            ≡ re_of self.old.unicode groups (called_in self.old.called.items) self.old.next_group (length self.old.matchers.items)
+            (tree_of expr.now)) }
     {
         match expr {
             Expr::Any { newline, crlf } => Ok(Translated::moving(Node::Read(Leaf::Any {
@@ -534,8 +537,10 @@ impl Translator {
         ensures sound { IfOk result (λ translated. IsSound (shape translated.node)) }
         ensures refused { IfErr result (IsClassCause self.old.unicode (classes (tree_of child.now))) }
         ensures shape { IfOk result (λ translated. IsWritable (look_around (tree_of child.now) look) → (groups : List Tree)
-            → AreCallSizes groups self.old.sizes.items → shape translated.node ≡ around self.old.unicode groups (called_in self.old.called.items) self.old.next_group (length self.old.matchers.items) look
-            (re_of self.old.unicode groups (called_in self.old.called.items) self.old.next_group (length self.old.matchers.items) (tree_of child.now)) (tree_of child.now)) }
+            → AreCallSizes groups self.old.sizes.items → shape translated.node ≡ around self.old.unicode groups
+            (called_in self.old.called.items) self.old.next_group (length self.old.matchers.items) look
+            (re_of self.old.unicode groups (called_in self.old.called.items) self.old.next_group (length self.old.matchers.items)
+            (tree_of child.now)) (tree_of child.now)) }
     {
         if is_one_char(child) {
             let leaf = self.leaf(child)?;
@@ -607,7 +612,8 @@ impl Translator {
         ensures refused { IfErr result (IsClassCause self.old.unicode (row_classes (all_trees children.now))) }
         ensures shape { IfOk result (λ translated. AreWritable (all_trees children.now) → (groups : List Tree)
             → AreCallSizes groups self.old.sizes.items → shape translated.node
-            ≡ joined (is_negated_look look) (each_around self.old.unicode groups (called_in self.old.called.items) self.old.next_group (length self.old.matchers.items) look
+            ≡ joined (is_negated_look look) (each_around self.old.unicode groups
+            (called_in self.old.called.items) self.old.next_group (length self.old.matchers.items) look
             (all_trees children.now))) }
     {
         let mut parts = Vec::new(self.alloc);
@@ -631,7 +637,8 @@ impl Translator {
         ensures refused { IfErr result (IsClassCause self.old.unicode (classes (tree_of child.now))) }
         ensures shape { IfOk result (λ translated. IsWritable (tree_of child.now) → (groups : List Tree)
             → AreCallSizes groups self.old.sizes.items → shape translated.node
-            ≡ re.atomic (re_of self.old.unicode groups (called_in self.old.called.items) self.old.next_group (length self.old.matchers.items) (tree_of child.now))) }
+            ≡ re.atomic (re_of self.old.unicode groups (called_in self.old.called.items) self.old.next_group
+            (length self.old.matchers.items) (tree_of child.now))) }
     {
         let translated = self.translated(child)?;
         Ok(Translated {
@@ -723,7 +730,8 @@ impl Translator {
         ensures refused { IfErr result (IsClassCause self.old.unicode (row_classes (all_trees children.now))) }
         ensures shape { IfOk result (λ translated. AreWritable (all_trees children.now) → (groups : List Tree)
             → AreCallSizes groups self.old.sizes.items → shape translated.node
-            ≡ row_of self.old.unicode groups (called_in self.old.called.items) self.old.next_group (length self.old.matchers.items) (all_trees children.now)) }
+            ≡ row_of self.old.unicode groups (called_in self.old.called.items) self.old.next_group
+            (length self.old.matchers.items) (all_trees children.now)) }
     {
         let mut parts = Vec::new(self.alloc);
         let mut moves = false;
@@ -751,7 +759,8 @@ impl Translator {
         ensures refused { IfErr result (IsClassCause self.old.unicode (row_classes (all_trees children.now))) }
         ensures shape { IfOk result (λ translated. AreWritable (all_trees children.now) → (groups : List Tree)
             → AreCallSizes groups self.old.sizes.items → shape translated.node
-            ≡ branches_of self.old.unicode groups (called_in self.old.called.items) self.old.next_group (length self.old.matchers.items) (all_trees children.now)) }
+            ≡ branches_of self.old.unicode groups (called_in self.old.called.items) self.old.next_group
+            (length self.old.matchers.items) (all_trees children.now)) }
     {
         let mut parts = Vec::new(self.alloc);
         let mut moves = true;
@@ -781,7 +790,8 @@ impl Translator {
         ensures shape { IfOk result (λ translated. IsWritable (tree_of child.now) → (groups : List Tree)
             → AreCallSizes groups self.old.sizes.items → shape translated.node
             ≡ re.group self.old.next_group
-            (re_of self.old.unicode groups (called_in self.old.called.items) (self.old.next_group + 1) (length self.old.matchers.items) (tree_of child.now))) }
+            (re_of self.old.unicode groups (called_in self.old.called.items) (self.old.next_group + 1)
+            (length self.old.matchers.items) (tree_of child.now))) }
     {
         let number = self.next_group;
         self.next_group = number.checked_add(1).ok_or(CompileError::Memory)?;
@@ -817,8 +827,10 @@ impl Translator {
         ensures shape { IfOk result (λ translated. IsWritable (repeat (tree_of child.now) lo hi greedy) → (groups : List Tree)
             → AreCallSizes groups self.old.sizes.items → shape translated.node
             ≡ unless (has_no_iteration lo hi) (re.repeat lo hi greedy (never_empty
-            (re_of self.old.unicode groups (called_in self.old.called.items) self.old.next_group (length self.old.matchers.items) (tree_of child.now)))
-            (re_of self.old.unicode groups (called_in self.old.called.items) self.old.next_group (length self.old.matchers.items) (tree_of child.now)))) }
+            (re_of self.old.unicode groups (called_in self.old.called.items) self.old.next_group (length self.old.matchers.items)
+            (tree_of child.now)))
+            (re_of self.old.unicode groups (called_in self.old.called.items) self.old.next_group (length self.old.matchers.items)
+            (tree_of child.now)))) }
     {
         if is_never_repeated(lo, hi) {
             self.skip_groups(child)?;

@@ -71,10 +71,10 @@ impl Regular {
     ghost use Rattle.fancy_regex_info.specs.declared.info.Info.{out-Info};
     ghost use Rattle.fancy_regex_info.specs.Views.{pattern_in};
 
-    /// Whether an analyzed pattern becomes states with parts. Its weight is at most 4,000 then, each call counted as the body of its group and
-    /// twice the depth of that body, and it has no more than characters, `\R`, `\G`, `(*FAIL)`, assertions, definitions, look-arounds, groups,
-    /// atomic groups, conditionals, alternations and repeats of these, and calls of groups of these that do not recur and nest at most 18
-    /// deep. The error is want of memory, only where the tree is not regular by itself.
+    /// Whether an analyzed pattern becomes states with parts. Its weight is at most 4,000 then, each call counted as the body of its group
+    /// and twice the depth of that body, and it has no more than characters, `\R`, `\G`, `(*FAIL)`, assertions, definitions, look-arounds,
+    /// groups, atomic groups, conditionals, alternations and repeats of these, and calls of groups of these that do not recur and nest at
+    /// most 18 deep. The error is want of memory, only where the tree is not regular by itself.
     pub fn supports(alloc: Global, info: &Info<'_>) -> Result<bool, AllocError>
         ensures exact { IfOk result (λ is. (explicit : Bool) (t : Tree) → info_of info.now ≡ analysis explicit t
             → (is ≡ true ↔ IsSupported (pattern_in explicit t))) }

@@ -196,8 +196,9 @@ fn swap_back(classes: &mut Vec<u32>, at: usize) {
     classes[at - 1] = class;
 }
 
-/// The classes of characters on a short way to a match; `None` where none is found among few rows. The last one ends the match or comes after
-/// it, unless the text ends there. Those that are commonest are tried first, or with `is_reversed` the rarest ones. The error is want of memory.
+/// The classes of characters on a short way to a match; `None` where none is found among few rows. The last one ends the match or comes
+/// after it, unless the text ends there. Those that are commonest are tried first, or with `is_reversed` the rarest ones. The error is
+/// want of memory.
 fn way_to_match(
     alloc: Global,
     cells: &[Cell],
