@@ -67,9 +67,9 @@ pub(crate) fn is_marked(marks: &[bool], group: usize) -> bool
     }
 }
 
-/// The size of a call of each group of the tree, by group number, where `recursive` tells of each whether it can call itself. With `explicit`
-/// group 0 is the first group of the tree; without, group 0 is the whole tree. Each iteration follows calls one level deeper; it stops as soon
-/// as an iteration changes nothing, after as many iterations as there are groups at most. The error is want of memory.
+/// The size of a call of each group of the tree, by group number, where `recursive` tells of each whether it can call itself. With
+/// `explicit` group 0 is the first group of the tree; without, group 0 is the whole tree. Each iteration follows calls one level deeper;
+/// it stops as soon as an iteration changes nothing, after as many iterations as there are groups at most. The error is want of memory.
 pub(crate) fn call_sizes(
     alloc: Global,
     expr: &Expr,

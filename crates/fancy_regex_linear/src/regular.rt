@@ -47,8 +47,8 @@ impl RegularStates {
 
     /// Whether an analyzed pattern becomes such states: it weighs 4,000 at most, each call counted as the body of its group and twice its
     /// depth, and has no more than characters, `\R`, `\G`, `(*FAIL)`, assertions, definitions, look-arounds, groups, atomic groups,
-    /// conditionals, alternations and repeats of these, and calls of groups of these that do not recur and nest no deeper than 18. The error
-    /// is want of memory, only where the tree is not regular by itself.
+    /// conditionals, alternations and repeats of these, and calls of groups of these that do not recur and nest no deeper than 18. The
+    /// error is want of memory, only where the tree is not regular by itself.
     pub fn are_made_for(alloc: Global, info: &Info<'_>) -> Result<bool, AllocError>
         ensures exact { IfOk result (λ made. (explicit : Bool) (t : Tree) → info_of info.now ≡ analysis explicit t
             → (made ≡ true ↔ IsMadeFor (pattern_in explicit t))) }
@@ -68,9 +68,9 @@ impl RegularStates {
         Ok(made)
     }
 
-    /// The states of an analyzed pattern; `None` where it becomes none (`are_made_for`): then there is no error but want of memory where it
-    /// is not regular by itself. The error is `InnerError` with the text of a class that `regex` refuses, of the tree or of the body of a group
-    /// that is called in it, or `Memory`.
+    /// The states of an analyzed pattern; `None` where it becomes none (`are_made_for`): then there is no error but want of memory where
+    /// it is not regular by itself. The error is `InnerError` with the text of a class that `regex` refuses, of the tree or of the body
+    /// of a group that is called in it, or `Memory`.
     pub fn new(
         alloc: Global,
         info: &Info<'_>,

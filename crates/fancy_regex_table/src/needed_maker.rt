@@ -289,7 +289,8 @@ fn keeps_wide(
     leads_all(cells, begins, class, reached)
 }
 
-/// Whether no attempt is under way after a character of this class, if the search is in this row, unless the character completes the string.
+/// Whether no attempt is under way after a character of this class, if the search is in this row, unless the character completes the
+/// string.
 fn resets_row(cells: &[Cell], fresh: &[FreshRow], string: &[u32], class: u32, it: Reached) -> bool
     ensures { result ≡ true → IsDone cells.now string.now class it (ResetsAnyhow fresh.now) }
 {
