@@ -98,6 +98,7 @@ fn ends(alloc: Global, memory: &mut RunMemory, prog: &Prog, text: &str, row: &Ru
         prog,
         options: &options,
         allowance: row.3,
+        walks: true,
     };
     let span = run_spans_within(alloc, &run, text, &input, memory);
     let groups = run_within(alloc, &run, text, &input, memory);

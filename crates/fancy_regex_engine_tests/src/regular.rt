@@ -29,7 +29,7 @@ const UNICODE: u32 = FLAG_UNICODE;
 
 const ONIGURUMA: u32 = FLAG_UNICODE | FLAG_MULTI | FLAG_ONIGURUMA_MODE;
 
-static SEARCHES: [Search; 98] = [
+static SEARCHES: [Search; 100] = [
     // a line break is `\r\n`, or one character
     Search("\\R", UNICODE, "\r\n", Answer::Match(0, 2)),
     Search("\\R\\n", UNICODE, "\r\n", Answer::Nothing),
@@ -193,10 +193,13 @@ static SEARCHES: [Search; 98] = [
     Search("(a)?(?(1)b|c)", UNICODE, "ab", Answer::NoStates),
     Search("(?(a)b|(c)\\1)", UNICODE, "ab", Answer::NoStates),
     Search("(a)\\1", UNICODE, "aa", Answer::NoStates),
-    Search("a\\Kb", UNICODE, "ab", Answer::NoStates),
-    Search("\\G\\Kb", UNICODE, "ab", Answer::NoStates),
+    Search("(a\\K)\\g<1>", UNICODE, "aa", Answer::NoStates),
+    // `\K` resets the start
+    Search("a\\Kb", UNICODE, "ab", Answer::Match(1, 2)),
+    Search("(?>(?:a|b\\K)+)c", UNICODE, "abac", Answer::Match(2, 4)),
     // `\G` has no place
     Search("\\Ga", UNICODE, "aa", Answer::Nothing),
+    Search("\\G\\Kb", UNICODE, "ab", Answer::Nothing),
     Search("(?!\\G)a", UNICODE, "ba", Answer::Match(1, 2)),
 ];
 

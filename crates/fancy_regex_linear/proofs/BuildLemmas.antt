@@ -42,9 +42,10 @@ regular_more : (ts : List Tree) (t : Tree) → AreWritable (trees (ts ++ t ∷ [
 regular_more [] t p = (tt, p.0)
 regular_more (u ∷ ts) t p = let rest = regular_more ts t p.1 in ((p.0, rest.0), rest.1)
 
-pub regular_added : (called : ℕ → Type 0) (ts : List Tree) (t : Tree) → AreRegular called (trees ts) → IsRegular called t → AreRegular called (trees (ts ++ t ∷ []))
-regular_added called [] t ps p = (p, tt)
-regular_added called (u ∷ ts) t ps p = (ps.0, regular_added called ts t ps.1 p)
+pub regular_added : (resets : Bool) (called : ℕ → Type 0) (ts : List Tree) (t : Tree) → AreRegular resets called (trees ts) → IsRegular resets called t
+    → AreRegular resets called (trees (ts ++ t ∷ []))
+regular_added resets called [] t ps p = (p, tt)
+regular_added resets called (u ∷ ts) t ps p = (ps.0, regular_added resets called ts t ps.1 p)
 
 -- a row with one more tree is plain if both are
 plain_added : (ts : List Tree) (t : Tree) → ArePlain (trees ts) → IsPlain t → ArePlain (trees (ts ++ t ∷ []))
@@ -133,13 +134,15 @@ pub plain_whole : (es : List Expr) (i : ℕ) → length es ≤ i → ArePlain (t
 plain_whole es i h done = rw (take_all i es h) at done
 
 -- the same of trees that become patterns with parts
-pub regular_step : (called : ℕ → Type 0) (es : List Expr) (i : ℕ) (e : Expr) → i < length es → e ≡ get_or es i e
-    → AreRegular called (trees (map tree_of (take i es))) → IsRegular called (tree_of e) → AreRegular called (trees (map tree_of (take (i + 1) es)))
-regular_step called es i e h is done one = rw (trees_more es i e h is) (regular_added called (map tree_of (take i es)) (tree_of e) done one)
+pub regular_step : (resets : Bool) (called : ℕ → Type 0) (es : List Expr) (i : ℕ) (e : Expr) → i < length es → e ≡ get_or es i e
+    → AreRegular resets called (trees (map tree_of (take i es))) → IsRegular resets called (tree_of e)
+    → AreRegular resets called (trees (map tree_of (take (i + 1) es)))
+regular_step resets called es i e h is done one =
+    rw (trees_more es i e h is) (regular_added resets called (map tree_of (take i es)) (tree_of e) done one)
 
-pub regular_whole : (called : ℕ → Type 0) (es : List Expr) (i : ℕ) → length es ≤ i → AreRegular called (trees (map tree_of (take i es)))
-    → AreRegular called (all_trees es)
-regular_whole called es i h done = rw (take_all i es h) at done
+pub regular_whole : (resets : Bool) (called : ℕ → Type 0) (es : List Expr) (i : ℕ) → length es ≤ i
+    → AreRegular resets called (trees (map tree_of (take i es))) → AreRegular resets called (all_trees es)
+regular_whole resets called es i h done = rw (take_all i es h) at done
 
 -- three tests
 pub three_hold : (a b c : Bool) → (a && b && c) ≡ true → (a ≡ true) × ((b ≡ true) × (c ≡ true))

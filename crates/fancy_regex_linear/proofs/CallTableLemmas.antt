@@ -87,7 +87,7 @@ called_on groups unicode cs ds (suc depth) j x h =
       b.0,
       b.1,
       regular_into (λ i. IsCalled groups unicode cs depth i (b.0 i)) (λ i. IsCalled groups unicode (cs ++ ds) depth i (b.0 i))
-          (λ i. called_on groups unicode cs ds depth i (b.0 i)) t b.2,
+          (λ i. called_on groups unicode cs ds depth i (b.0 i)) false t b.2,
       b.3,
       stand_on cs ds b.1 (classes t) b.4,
     )) h

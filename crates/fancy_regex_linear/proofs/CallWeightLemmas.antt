@@ -64,8 +64,8 @@ module _ (groups : List Tree) (call : ℕ → ℕ) where
       ∙ repeat_stops groups lo hi (weight_with groups call t) may
       ∙ ap (λ b. min unbounded (repeat_weight groups lo (bound_of hi) (weight_with groups call t) b)) flag
 
--- none of those that weigh more than 1
-pub record WeighsOne (e : Expr) : Type 0 where
+-- a node that is no call, and none of those that have calls below them
+pub record CallsNone (e : Expr) : Type 0 where
   pub concat : (ts : Vec Expr Global) → e ≡ view.Concat ts → ⊥
   pub alt : (ts : Vec Expr Global) → e ≡ view.Alt ts → ⊥
   pub group : (t : Box Expr Global) → e ≡ view.Group t → ⊥

@@ -21,6 +21,7 @@ use Rattle.fancy_regex_linear.specs.Translation.{made_of, called_in, is_known, i
 use Rattle.fancy_regex_linear.specs.declared.build.Translator.{Translator}
 use Rattle.fancy_regex_linear.specs.declared.callee.Callee.{Callee}
 use Rattle.fancy_regex_linear.proofs.PlainLemmas.{regular_into, regular_both}
+use Rattle.fancy_regex_linear.proofs.KeepLemmas.{regular_true, regular_as}
 use Rattle.fancy_regex_linear.proofs.ApartLemmas.{of_some, some_body}
 use Rattle.fancy_regex_linear.proofs.CallTableLemmas.{called_on}
 use Rattle.fancy_regex_linear.proofs.MarkLemmas.{body_same, body_inside, table_more}
@@ -46,19 +47,21 @@ callable_inside : (gs : List (Bor Expr)) (depth j : ℕ) → IsCallable (map bod
 unfolding IsCallable
 callable_inside gs zero j h = absurd h
 callable_inside gs (suc depth) j h =
-    let found = some_body (IsRegular (IsCallable (map body_tree gs) depth)) (target (map body_tree gs) j) h in body_inside gs j found.0 found.1
+    let found = some_body (IsRegular false (IsCallable (map body_tree gs) depth)) (target (map body_tree gs) j) h in body_inside gs j found.0 found.1
 
 module _ (gs : List (Bor Expr)) (depth : ℕ) (below : List Bool) (called : List (Option Callee)) (long : length below ≡ length (map body_tree gs))
     (known : AreKnown (map body_tree gs) depth below called) where
   -- a tree with its calls marked is regular by what is known
-  pub known_calls : (t : Tree) → AllMarked below t → IsRegular (IsCallable (map body_tree gs) depth) t → IsRegular (λ j. is_made called j ≡ true) t
-  known_calls t all p =
+  pub known_calls : (resets : Bool) (t : Tree) → AllMarked below t → IsRegular resets (IsCallable (map body_tree gs) depth) t
+      → IsRegular resets (λ j. is_made called j ≡ true) t
+  known_calls resets t all p =
       let groups = map body_tree gs in
+      let marked = λ (j : ℕ). mark_at below j ≡ true in
       let inside =
       regular_into (IsCallable groups depth) (λ j. j < length below)
-      (λ j h. omega (arith, long, length-map gs body_tree, callable_inside gs depth j h)) t p in
-      regular_into (λ j. (mark_at below j ≡ true) × IsCallable groups depth j) (λ j. is_made called j ≡ true) (λ j both. known j both.0 both.1) t
-      (regular_both (λ j. mark_at below j ≡ true) (IsCallable groups depth) t (all inside) p)
+      (λ j h. omega (arith, long, length-map gs body_tree, callable_inside gs depth j h)) true t (regular_true (IsCallable groups depth) resets t p) in
+      regular_into (λ j. (mark_at below j ≡ true) × IsCallable groups depth j) (λ j. is_made called j ≡ true) (λ j both. known j both.0 both.1) resets t
+      (regular_both marked (IsCallable groups depth) resets t (regular_as marked (IsCallable groups depth) true resets t (all inside) p) p)
 
 module _ (gs : List (Bor Expr)) (marks : List Bool) (before : Translator) where
   -- before the first body
@@ -78,9 +81,9 @@ module _ (gs : List (Bor Expr)) (marks : List Bool) (before : Translator) where
       (level : MakesLevel (map body_tree gs) marks before mid xs g) where
     -- what is known of the group itself
     is_known_of : (made : Option Callee) → Type 0
-    is_known_of made = b ≡ true → IsRegular (λ i. mark_at known i ≡ true) (body_tree e) → is_known (Some made) ≡ true
+    is_known_of made = b ≡ true → IsRegular false (λ i. mark_at known i ≡ true) (body_tree e) → is_known (Some made) ≡ true
 
-    step_known : (made : Option Callee) → ys ≡ xs ++ made ∷ [] → (b ≡ true → IsRegular (λ i. mark_at known i ≡ true) (body_tree e) → is_known (Some made) ≡ true)
+    step_known : (made : Option Callee) → ys ≡ xs ++ made ∷ [] → (b ≡ true → IsRegular false (λ i. mark_at known i ≡ true) (body_tree e) → is_known (Some made) ≡ true)
         → (depth : ℕ) (below : List Bool) → FollowsMarks (map body_tree gs) marks below → AreKnown (map body_tree gs) depth below before.called.items
         → (j : ℕ) → j < g + 1 → mark_at marks j ≡ true → IsCallable (map body_tree gs) (suc depth) j → is_made ys j ≡ true
     unfolding IsCallable
@@ -89,13 +92,13 @@ module _ (gs : List (Bor Expr)) (marks : List Bool) (before : Translator) where
         xs ys made are
         (λ j lt below_next marked callable. level.known depth below follows calls j (omega (arith, lt, long)) marked callable)
         (λ below_next marked callable.
-        let found = some_body (IsRegular (IsCallable (map body_tree gs) depth)) (target (map body_tree gs) (length xs)) callable in
+        let found = some_body (IsRegular false (IsCallable (map body_tree gs) depth)) (target (map body_tree gs) (length xs)) callable in
         let same = body_same gs g (length xs) e found.0 inside is long found.1 in
-        let regular : IsRegular (λ j. is_made before.called.items j ≡ true) (body_tree e) =
-        subst (IsRegular (λ j. is_made before.called.items j ≡ true)) same
-        (known_calls gs depth below before.called.items follows.long calls found.0 (follows.all (length xs) found.0 found.1 marked) found.2) in
+        let regular : IsRegular false (λ j. is_made before.called.items j ≡ true) (body_tree e) =
+        subst (IsRegular false (λ j. is_made before.called.items j ≡ true)) same
+        (known_calls gs depth below before.called.items follows.long calls false found.0 (follows.all (length xs) found.0 found.1 marked) found.2) in
         here (set ∙ ap (mark_at marks) (sym long) ∙ marked)
-        (regular_into (λ j. is_made before.called.items j ≡ true) (λ i. mark_at known i ≡ true) (λ j h. tells j ∙ h) (body_tree e) regular))
+        (regular_into (λ j. is_made before.called.items j ≡ true) (λ i. mark_at known i ≡ true) (λ j h. tells j ∙ h) false (body_tree e) regular))
         (λ j past below_next. absurd (omega (arith, past, long, below_next)))
 
     step_called : (made : Option Callee) → ys ≡ xs ++ made ∷ [] → (more : List (Text × Bool)) (cs : List (Text × Bool)) (depth : ℕ)
@@ -124,9 +127,9 @@ module _ (gs : List (Bor Expr)) (marks : List Bool) (before : Translator) where
         let all = cs ++ (level.more ++ classes body) in
         let called = called_in before.called.items in
         let base = length mid.matchers.items in
-        let each : IsRegular (λ i. IsCalled groups before.unicode all depth i (called i)) body =
+        let each : IsRegular false (λ i. IsCalled groups before.unicode all depth i (called i)) body =
         regular_into (λ i. mark_at known i ≡ true) (λ i. IsCalled groups before.unicode all depth i (called i))
-        (λ i h. called_on groups before.unicode cs (level.more ++ classes body) depth i (called i) (are i (sym (tells i) ∙ h))) body made.1 in
+        (λ i h. called_on groups before.unicode cs (level.more ++ classes body) depth i (called i) (are i (sym (tells i) ∙ h))) false body made.1 in
         let sizes : AreCallSizes groups mid.sizes.items = subst (λ (v : Vec _ Global). AreCallSizes groups v.items) (sym level.tables.0) sized in
         let pattern : shape callee.node ≡ re_of before.unicode groups called (g + 1) base body =
         made.2 groups sizes
@@ -240,12 +243,12 @@ all_written gs root unicode nesting tables translator final deep levels matchers
     record {
       all_classes = has.all_classes;
       matchers = subst (λ (ms : Vec CharClassMatcher Global). HaveMatchers unicode ms.items has.all_classes) (sym matchers) has.matchers;
-      calls = λ out.
+      calls = λ resets out.
           let known =
-          known_calls gs nesting (marks_at tables 0) translator.called.items levels.long has.known root levels.first
-          (subst (λ (d : ℕ). IsRegular (IsCallable groups d) root) (sym deep) out) in
+          known_calls gs nesting (marks_at tables 0) translator.called.items levels.long has.known resets root levels.first
+          (subst (λ (d : ℕ). IsRegular resets (IsCallable groups d) root) (sym deep) out) in
           subst (λ (v : Vec (Option Callee) Global).
-          IsRegular (λ j. IsCalled groups unicode has.all_classes (greatest_nesting (length groups)) j (called_in v.items j)) root) (sym called)
-          (subst (λ (d : ℕ). IsRegular (λ j. IsCalled groups unicode has.all_classes d j (calls j)) root) deep
-          (regular_into (λ j. is_made translator.called.items j ≡ true) (λ j. IsCalled groups unicode has.all_classes nesting j (calls j)) has.called root known));
+          IsRegular resets (λ j. IsCalled groups unicode has.all_classes (greatest_nesting (length groups)) j (called_in v.items j)) root) (sym called)
+          (subst (λ (d : ℕ). IsRegular resets (λ j. IsCalled groups unicode has.all_classes d j (calls j)) root) deep
+          (regular_into (λ j. is_made translator.called.items j ≡ true) (λ j. IsCalled groups unicode has.all_classes nesting j (calls j)) has.called resets root known));
     }

@@ -96,13 +96,15 @@ closed true before rest call place old e at is =
 closed false before rest call place old e at is = absurd (true≢false (sym e))
 
 -- an alternation by its branches
-pub alt_some : (calls : List CallFacts) (es : List Expr) (parts : Bool) → (length es == 0) ≡ false → regular_by calls (alt (all_trees es)) parts ≡ parts
-alt_some calls [] parts e = absurd (true≢false e)
-alt_some calls (x ∷ es) parts e = refl
+pub alt_some : (calls : List CallFacts) (resets : Bool) (es : List Expr) (parts keep : Bool) → (length es == 0) ≡ false
+    → regular_by calls resets (alt (all_trees es)) parts keep ≡ parts
+alt_some calls resets [] parts keep e = absurd (true≢false e)
+alt_some calls resets (x ∷ es) parts keep e = refl
 
-pub alt_none : (calls : List CallFacts) (es : List Expr) (parts : Bool) → (length es == 0) ≡ true → regular_by calls (alt (all_trees es)) parts ≡ false
-alt_none calls [] parts e = refl
-alt_none calls (x ∷ es) parts e = absurd (let none : length (x ∷ es) ≡ 0 = eqb-true _ _ e in omega (arith, none))
+pub alt_none : (calls : List CallFacts) (resets : Bool) (es : List Expr) (parts keep : Bool) → (length es == 0) ≡ true
+    → regular_by calls resets (alt (all_trees es)) parts keep ≡ false
+alt_none calls resets [] parts keep e = refl
+alt_none calls resets (x ∷ es) parts keep e = absurd (let none : length (x ∷ es) ≡ 0 = eqb-true _ _ e in omega (arith, none))
 
 pub alt_weighs : (calls : List CallFacts) (es : List Expr) (parts : TreeFacts) (gaps r : ℕ) → gaps ≡ min unbounded (3 * (length es - 1))
     → r ≡ min (parts.weight + gaps) unbounded → r ≡ weight_by calls (alt (all_trees es)) parts

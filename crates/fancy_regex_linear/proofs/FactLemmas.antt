@@ -2,7 +2,7 @@
 use Rattle.std.proofs.Common.{◌≡◌, ◌↔◌, ◌∙◌, ◌==◌, ◌+◌, ◌-◌, ◌*◌, ℕ, zero, suc, ◌≤◌, min, max, not, ◌&&◌, ◌||◌, Bool, true, false, true≢false, List, [], ◌∷◌, ◌++◌, length, Some, None, slice_get, refl, sym, ap, ap₂, subst, arith, append_assoc, append-nil}
 use Rattle.std.proofs.lemmas.List.{length-append}
 use Rattle.std.proofs.lemmas.Bool.{and_parts}
-use Rattle.fancy_regex_tree.specs.Tree.{Tree, Trees, trees, empty, any, assertion, general_newline, literal, concat, alt, group, look_around, repeat, delegate, atomic_group, conditional, subroutine_call, verb, continue, absent_repeater, absent_expression, absent_stopper, define_group, ast_group, no_trees, more_trees}
+use Rattle.fancy_regex_tree.specs.Tree.{Tree, Trees, trees, empty, any, assertion, general_newline, literal, concat, alt, group, look_around, repeat, delegate, atomic_group, conditional, subroutine_call, verb, keep_out, continue, absent_repeater, absent_expression, absent_stopper, define_group, ast_group, no_trees, more_trees}
 use Rattle.fancy_regex_tree.specs.declared.expr.BacktrackingControlVerb.{BacktrackingControlVerb}
 use Rattle.fancy_regex_tree.specs.declared.expr.BacktrackingControlVerb.TheVariants.{Fail}
 use Rattle.fancy_regex_tree.specs.Traversal.{listed, subtrees}
@@ -62,25 +62,28 @@ module _ (groups : List Tree) (called : ℕ → Type 0) (call : ℕ → ℕ) whe
   all_empty (t ∷ ts) = may_be_empty groups t && all_empty ts
 
   pub record IsKnown (t : Tree) (facts : TreeFacts) : Type 0 where
-    pub regular : (facts.is_regular ≡ true) ↔ IsRegular called t
+    pub regular : (facts.is_regular ≡ true) ↔ IsRegular true called t
+    pub keeps : (facts.keeps_start ≡ true) ↔ IsRegular false called t
     pub weight : facts.weight ≡ min unbounded (weight_with groups call t)
     pub depth : facts.depth ≡ min unbounded (tree_depth t)
     pub empty : facts.may_be_empty ≡ may_be_empty groups t
 
   record AreKnown (ts : List Tree) (facts : TreeFacts) : Type 0 where
-    regular : (facts.is_regular ≡ true) ↔ AreRegular called (trees ts)
+    regular : (facts.is_regular ≡ true) ↔ AreRegular true called (trees ts)
+    keeps : (facts.keeps_start ≡ true) ↔ AreRegular false called (trees ts)
     weight : facts.weight ≡ min unbounded (weights_with groups call (trees ts))
     depth : facts.depth ≡ min unbounded (max_depth ts)
     empty : facts.may_be_empty ≡ all_empty ts
 
   none_known : AreKnown [] no_parts
   unfolding weight_with
-  none_known = record { regular = (λ e. tt, λ h. refl); weight = refl; depth = refl; empty = refl }
+  none_known = record { regular = (λ e. tt, λ h. refl); keeps = (λ e. tt, λ h. refl); weight = refl; depth = refl; empty = refl }
 
-  regular_more : (ts : List Tree) (t : Tree) → (AreRegular called (trees ts) × IsRegular called t) ↔ AreRegular called (trees (ts ++ t ∷ []))
-  regular_more [] t = (λ h. (h.1, tt), λ h. (tt, h.0))
-  regular_more (u ∷ ts) t =
-      let more = regular_more ts t in
+  regular_more : (resets : Bool) (ts : List Tree) (t : Tree)
+      → (AreRegular resets called (trees ts) × IsRegular resets called t) ↔ AreRegular resets called (trees (ts ++ t ∷ []))
+  regular_more resets [] t = (λ h. (h.1, tt), λ h. (tt, h.0))
+  regular_more resets (u ∷ ts) t =
+      let more = regular_more resets ts t in
       (λ h. (h.0.0, more.0 (h.0.1, h.1)), λ h. let both = more.1 h.1 in ((h.0, both.0), both.1))
 
   empty_more : (ts : List Tree) (t : Tree) → all_empty (ts ++ t ∷ []) ≡ (all_empty ts && may_be_empty groups t)
@@ -89,10 +92,13 @@ module _ (groups : List Tree) (called : ℕ → Type 0) (call : ℕ → ℕ) whe
 
   part_known : (ts : List Tree) (t : Tree) (parts part : TreeFacts) → AreKnown ts parts → IsKnown t part → AreKnown (ts ++ t ∷ []) (with_part parts part)
   part_known ts t parts part p f =
-      let both = and_both parts.is_regular part.is_regular (AreRegular called (trees ts)) (IsRegular called t) p.regular f.regular in
-      let more = regular_more ts t in
+      let both = and_both parts.is_regular part.is_regular (AreRegular true called (trees ts)) (IsRegular true called t) p.regular f.regular in
+      let more = regular_more true ts t in
+      let both_keep = and_both parts.keeps_start part.keeps_start (AreRegular false called (trees ts)) (IsRegular false called t) p.keeps f.keeps in
+      let more_keep = regular_more false ts t in
       record {
         regular = (λ e. more.0 (both.0 e), λ h. both.1 (more.1 h));
+        keeps = (λ e. more_keep.0 (both_keep.0 e), λ h. both_keep.1 (more_keep.1 h));
         weight = omega (arith, p.weight, f.weight, weights_more groups call ts t);
         depth = omega (arith, p.depth, f.depth, deepest_more ts t);
         empty = ap₂ (λ a b. a && b) p.empty f.empty ∙ sym (empty_more ts t);
@@ -102,40 +108,43 @@ module _ (groups : List Tree) (called : ℕ → Type 0) (call : ℕ → ℕ) whe
   unfolding weight_with
   single t facts p = record {
     regular = (λ e. (p.regular.0 e).0, λ h. p.regular.1 (h, tt));
+    keeps = (λ e. (p.keeps.0 e).0, λ h. p.keeps.1 (h, tt));
     weight = omega (arith, p.weight);
     depth = omega (arith, p.depth);
     empty = p.empty ∙ and_one (may_be_empty groups t);
   }
 
   module _ (calls : List CallFacts) (marks : (j : ℕ) → (callable_in calls j ≡ true ↔ called j)) (weighs : (j : ℕ) → weight_in calls j ≡ min unbounded (call j)) where
-    regular_right : (t : Tree) (b : Bool) → (b ≡ true ↔ AreRegular called (trees (subtrees t))) → (regular_by calls t b ≡ true ↔ IsRegular called t)
-    regular_right empty b h = (λ e. tt, λ r. refl)
-    regular_right (any newline crlf) b h = (λ e. tt, λ r. refl)
-    regular_right (literal val casei) b h = (λ e. tt, λ r. refl)
-    regular_right (delegate class casei) b h = (λ e. tt, λ r. refl)
-    regular_right (general_newline wide) b h = (λ e. tt, λ r. refl)
-    regular_right (assertion a) b h = (λ e. tt, λ r. refl)
-    regular_right continue b h = (λ e. tt, λ r. refl)
-    regular_right (define_group t) b h = (λ e. tt, λ r. refl)
-    regular_right (verb v) b h = of_verb v
+    regular_right : (resets : Bool) (t : Tree) (b keep : Bool) → (b ≡ true ↔ AreRegular resets called (trees (subtrees t)))
+        → (keep ≡ true ↔ AreRegular false called (trees (subtrees t))) → (regular_by calls resets t b keep ≡ true ↔ IsRegular resets called t)
+    regular_right resets empty b keep h k = (λ e. tt, λ r. refl)
+    regular_right resets (any newline crlf) b keep h k = (λ e. tt, λ r. refl)
+    regular_right resets (literal val casei) b keep h k = (λ e. tt, λ r. refl)
+    regular_right resets (delegate class casei) b keep h k = (λ e. tt, λ r. refl)
+    regular_right resets (general_newline wide) b keep h k = (λ e. tt, λ r. refl)
+    regular_right resets (assertion a) b keep h k = (λ e. tt, λ r. refl)
+    regular_right resets continue b keep h k = (λ e. tt, λ r. refl)
+    regular_right resets (define_group t) b keep h k = (λ e. tt, λ r. refl)
+    regular_right resets keep_out b keep h k = (λ e. e, λ r. r)
+    regular_right resets (verb v) b keep h k = of_verb v
       where
         of_verb : (v : BacktrackingControlVerb) → (is_fail v ≡ true ↔ IsFail v)
         of_verb Fail = (λ e. tt, λ r. refl)
         of_verb _ = (λ e. absurd (true≢false (sym e)), λ r. absurd r)
-    regular_right (concat ts) b h = subst (λ us. b ≡ true ↔ AreRegular called us) (trees_listed ts) h
-    regular_right (group t) b h = (λ e. (h.0 e).0, λ r. h.1 (r, tt))
-    regular_right (look_around t how) b h = (λ e. (h.0 e).0, λ r. h.1 (r, tt))
-    regular_right (atomic_group t) b h = (λ e. (h.0 e).0, λ r. h.1 (r, tt))
-    regular_right (conditional c a d) b h =
+    regular_right resets (concat ts) b keep h k = subst (λ us. b ≡ true ↔ AreRegular resets called us) (trees_listed ts) h
+    regular_right resets (group t) b keep h k = (λ e. (h.0 e).0, λ r. h.1 (r, tt))
+    regular_right resets (look_around t how) b keep h k = (λ e. (k.0 e).0, λ r. k.1 (r, tt))
+    regular_right resets (atomic_group t) b keep h k = (λ e. (h.0 e).0, λ r. h.1 (r, tt))
+    regular_right resets (conditional c a d) b keep h k =
         (λ e. let p = h.0 e in (p.0, (p.1.0, p.1.1.0)), λ r. h.1 (r.0, (r.1.0, (r.1.1, tt))))
-    regular_right (alt no_trees) b h = (λ e. absurd (true≢false (sym e)), λ r. absurd (r.0 refl))
-    regular_right (alt (more_trees t ts)) b h =
-        let all = subst (λ us. b ≡ true ↔ AreRegular called us) (trees_listed (more_trees t ts)) h in
+    regular_right resets (alt no_trees) b keep h k = (λ e. absurd (true≢false (sym e)), λ r. absurd (r.0 refl))
+    regular_right resets (alt (more_trees t ts)) b keep h k =
+        let all = subst (λ us. b ≡ true ↔ AreRegular resets called us) (trees_listed (more_trees t ts)) h in
         (λ e. ((λ is. cc), all.0 e), λ r. all.1 r.1)
-    regular_right (repeat t lo hi greedy) b h =
-        unless_true (has_no_iteration lo hi) b (IsRegular called t) (λ e. (h.0 e).0, λ r. h.1 (r, tt))
-    regular_right (subroutine_call j) b h = marks j
-    regular_right _ b h = (λ e. absurd (true≢false (sym e)), λ r. absurd r)
+    regular_right resets (repeat t lo hi greedy) b keep h k =
+        unless_true (has_no_iteration lo hi) b (IsRegular resets called t) (λ e. (h.0 e).0, λ r. h.1 (r, tt))
+    regular_right resets (subroutine_call j) b keep h k = marks j
+    regular_right resets _ b keep h k = (λ e. absurd (true≢false (sym e)), λ r. absurd r)
 
     weight_right : (t : Tree) (parts : TreeFacts) → AreKnown (subtrees t) parts → weight_by calls t parts ≡ min unbounded (weight_with groups call t)
     unfolding weight_with
@@ -156,7 +165,8 @@ module _ (groups : List Tree) (called : ℕ → Type 0) (call : ℕ → ℕ) whe
 
     node_known : (t : Tree) (may : Bool) (parts : TreeFacts) → AreKnown (subtrees t) parts → may ≡ may_be_empty groups t → IsKnown t (facts_by calls t may parts)
     node_known t may parts p is = record {
-      regular = regular_right t parts.is_regular p.regular;
+      regular = regular_right true t parts.is_regular parts.keeps_start p.regular p.keeps;
+      keeps = regular_right false t parts.keeps_start parts.keeps_start p.keeps p.keeps;
       weight = weight_right t parts p;
       depth = omega (arith, p.depth, depth_by_parts t);
       empty = is;
@@ -164,12 +174,12 @@ module _ (groups : List Tree) (called : ℕ → Type 0) (call : ℕ → ℕ) whe
 
     -- what is known of the calls of a group with this body
     pub record IsCallKnown (body : Tree) (facts : CallFacts) : Type 0 where
-      pub regular : (facts.is_callable ≡ true) ↔ IsRegular called body
+      pub regular : (facts.is_callable ≡ true) ↔ IsRegular false called body
       pub weight : facts.weight ≡ min unbounded (body_weight groups call body)
 
     call_known : (body : Tree) (facts : TreeFacts) → IsKnown body facts → IsCallKnown body (call_of facts)
     call_known body facts f = record {
-      regular = f.regular;
+      regular = f.keeps;
       weight = body_stops (weight_with groups call body) (tree_depth body) facts.weight facts.depth f.weight f.depth;
     }
 
@@ -189,7 +199,7 @@ module _ (groups : List Tree) (called : ℕ → Type 0) (call : ℕ → ℕ) whe
 
     -- a call of each group, by its number
     by_number : (ts : List Tree) (xs : List CallFacts) → AreCallsKnown ts xs → (j : ℕ)
-        → (callable_in xs j ≡ true ↔ OfBody (IsRegular called) (slice_get ts j))
+        → (callable_in xs j ≡ true ↔ OfBody (IsRegular false called) (slice_get ts j))
         × (weight_in xs j ≡ min unbounded (elim (slice_get ts j) [ None ↦ 1 | Some body ↦ body_weight groups call body ]))
     by_number [] [] h j = ((λ e. absurd (true≢false (sym e)), λ b. absurd b), refl)
     by_number [] (x ∷ xs) h j = absurd h

@@ -14,6 +14,7 @@ pub mod StartLemmas
 pub mod RefusalLemmas
 pub mod CarryLemmas
 pub mod PlainLemmas
+pub mod KeepLemmas
 pub mod LookLemmas
 pub mod NewlineLemmas
 pub mod TextEndLemmas

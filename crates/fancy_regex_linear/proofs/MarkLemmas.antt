@@ -3,7 +3,8 @@ use Rattle.std.proofs.Common.{◌≡◌, ◌⊎◌, ◌∙◌, ℕ, zero, suc, �
 use Rattle.std.proofs.lemmas.Bool.{cases_lt, cases_eq}
 use Rattle.std.proofs.lemmas.List.{take_all, drop_all, append-nil, length-map, length-replicate}
 use Rattle.std.proofs.lemmas.Option.{none-some, same_Some}
-use Rattle.fancy_regex_tree.specs.Tree.{Tree, Trees, absent_tree, ast_tree, node_tree, absent_tree_of, ast_tree_of, tree_of, trees}
+use Rattle.fancy_regex_tree.specs.declared.expr.LookAround.{LookAround}
+use Rattle.fancy_regex_tree.specs.Tree.{Tree, Trees, look_around, absent_tree, ast_tree, node_tree, absent_tree_of, ast_tree_of, tree_of, trees}
 use Rattle.fancy_regex_tree.specs.declared.expr.Absent.{Absent}
 use Rattle.fancy_regex_tree.specs.declared.expr.Absent.TheViews.{roll-Expr, roll-out-Expr, out-Expr, roll-out-Absent, out-Absent, roll-out-AstNode, out-AstNode}
 use Rattle.fancy_regex_tree.specs.declared.expr.Absent.TheOpen.{Expr-F, Absent-F, AstNode-F}
@@ -19,9 +20,10 @@ use Rattle.fancy_regex_linear.specs.Plain.{IsRegular, AreRegular}
 use Rattle.fancy_regex_linear.specs.CalledClasses.{HasCall, RowHasCall, IsReached, from_root, from_body}
 use Rattle.fancy_regex_linear.specs.CallMarks.{KeepsMarks, AllMarked, RowMarked, FollowsMarks, IsCalledFrom, marks_or_none, marks_at, AreLevels}
 use Rattle.fancy_regex_linear.specs.Translation.{all_trees}
-use Rattle.fancy_regex_linear.proofs.PlainLemmas.{regular_into, all_into}
+use Rattle.fancy_regex_linear.proofs.PlainLemmas.{regular_into, all_into, regular_resets}
+use Rattle.fancy_regex_linear.proofs.KeepLemmas.{regular_as}
 use Rattle.fancy_regex_linear.proofs.BuildLemmas.{regular_added, trees_more}
-use Rattle.fancy_regex_linear.proofs.CallWeightLemmas.{WeighsOne}
+use Rattle.fancy_regex_linear.proofs.CallWeightLemmas.{CallsNone}
 
 marked_inside : (marks : List Bool) (j : ℕ) → mark_at marks j ≡ true → j < length marks
 marked_inside [] j h = absurd (true≢false (sym h))
@@ -36,22 +38,29 @@ kept_both a b c first next = record { same = next.same ∙ first.same; stay = λ
 
 pub still_marked : (a b : List Bool) (t : Tree) → KeepsMarks a b → AllMarked a t → AllMarked b t
 still_marked a b t kept all p =
-    regular_into (λ j. mark_at a j ≡ true) (λ j. mark_at b j ≡ true) (λ j h. kept.stay j h) t
-    (all (regular_into (λ j. j < length b) (λ j. j < length a) (λ j h. omega (arith, h, kept.same)) t p))
+    regular_into (λ j. mark_at a j ≡ true) (λ j. mark_at b j ≡ true) (λ j h. kept.stay j h) true t
+    (all (regular_into (λ j. j < length b) (λ j. j < length a) (λ j h. omega (arith, h, kept.same)) true t p))
 
 pub still_row : (a b : List Bool) (ts : Trees) → KeepsMarks a b → RowMarked a ts → RowMarked b ts
 still_row a b ts kept all p =
-    all_into (λ j. mark_at a j ≡ true) (λ j. mark_at b j ≡ true) (λ j h. kept.stay j h) ts
-    (all (all_into (λ j. j < length b) (λ j. j < length a) (λ j h. omega (arith, h, kept.same)) ts p))
+    all_into (λ j. mark_at a j ≡ true) (λ j. mark_at b j ≡ true) (λ j h. kept.stay j h) true ts
+    (all (all_into (λ j. j < length b) (λ j. j < length a) (λ j h. omega (arith, h, kept.same)) true ts p))
+
+-- A look-around has the calls of its body, which is regular without `\K`.
+pub look_marked : (marks : List Bool) (t : Tree) (how : LookAround) → AllMarked marks t → AllMarked marks (look_around t how)
+look_marked marks t how all p =
+    let inside = λ (j : ℕ). j < length marks in
+    regular_as (λ j. mark_at marks j ≡ true) inside true false t (all (regular_resets inside t p)) p
 
 -- one tree more of a row
-row_splits : (called : ℕ → Type 0) (ts : List Tree) (t : Tree) → AreRegular called (trees (ts ++ t ∷ [])) → AreRegular called (trees ts) × IsRegular called t
+row_splits : (called : ℕ → Type 0) (ts : List Tree) (t : Tree) → AreRegular true called (trees (ts ++ t ∷ []))
+    → AreRegular true called (trees ts) × IsRegular true called t
 row_splits called [] t p = (tt, p.0)
 row_splits called (u ∷ ts) t p = let rest = row_splits called ts t p.1 in ((p.0, rest.0), rest.1)
 
 row_joined : (marks : List Bool) (ts : List Tree) (t : Tree) → RowMarked marks (trees ts) → AllMarked marks t → RowMarked marks (trees (ts ++ t ∷ []))
 row_joined marks ts t row one p =
-    let parts = row_splits (λ j. j < length marks) ts t p in regular_added (λ j. mark_at marks j ≡ true) ts t (row parts.0) (one parts.1)
+    let parts = row_splits (λ j. j < length marks) ts t p in regular_added true (λ j. mark_at marks j ≡ true) ts t (row parts.0) (one parts.1)
 
 pub row_begins : (es : List Expr) (marks : List Bool) → RowMarked marks (trees (map tree_of (take 0 es)))
 row_begins es marks p = tt
@@ -128,7 +137,7 @@ row_only_ends es i first marks j h only = rw (take_all i es h) at only
 -- A node that is none of those with calls below it is regular whatever calls are, or not at all.
 module _ (P Q : ℕ → Type 0) where
   abbrev Into : Tree → Type 0
-  Into t = IsRegular P t → IsRegular Q t
+  Into t = IsRegular true P t → IsRegular true Q t
 
   ast_into : (x : AstNode-F Tree (ℕ → Tree) Tree) (position : ℕ) → Into (ast_tree x position)
   ast_into (AstNode-F.AstGroup name t) position p = absurd p
@@ -154,7 +163,7 @@ module _ (P Q : ℕ → Type 0) where
       subst (λ z. Into (absent_tree_of z)) (roll-out-Absent a)
       (subst Into (sym (fold-roll-Absent Tree (ℕ → Tree) Tree absent_tree ast_tree node_tree x)) (absent_into _))
 
-  rolled_into : (x : Expr-F Absent AstNode Expr) → WeighsOne (roll-Expr x) → Into (tree_of (roll-Expr x))
+  rolled_into : (x : Expr-F Absent AstNode Expr) → CallsNone (roll-Expr x) → Into (tree_of (roll-Expr x))
   rolled_into (Expr-F.Concat ts) h = absurd (h.concat ts (view.rolls-Concat ts))
   rolled_into (Expr-F.Alt ts) h = absurd (h.alt ts (view.rolls-Alt ts))
   rolled_into (Expr-F.Group t) h = absurd (h.group t (view.rolls-Group t))
@@ -169,10 +178,10 @@ module _ (P Q : ℕ → Type 0) where
       subst Into (sym (fold-roll-Expr Tree (ℕ → Tree) Tree absent_tree ast_tree node_tree (Expr-F.AstNode a position))) (ast_of_into a position)
   rolled_into x h = subst Into (sym (fold-roll-Expr Tree (ℕ → Tree) Tree absent_tree ast_tree node_tree x)) (λ p. p)
 
-  pub other_into : (e : Expr) → WeighsOne e → IsRegular P (tree_of e) → IsRegular Q (tree_of e)
+  pub other_into : (e : Expr) → CallsNone e → IsRegular true P (tree_of e) → IsRegular true Q (tree_of e)
   other_into e h =
       let back = roll-out-Expr e in
-      subst (λ b. Into (tree_of b)) back (rolled_into (out-Expr e) (subst WeighsOne (sym back) h))
+      subst (λ b. Into (tree_of b)) back (rolled_into (out-Expr e) (subst CallsNone (sym back) h))
 
 -- tables of which no mark is set
 pub none_marked : (n j : ℕ) → mark_at (replicate n false) j ≡ false

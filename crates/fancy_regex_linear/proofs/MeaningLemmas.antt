@@ -1,5 +1,5 @@
 -- A plain pattern has the ways of its tree.
-use Rattle.std.proofs.Common.{◌≡◌, ◌≢◌, ℕ, zero, suc, ◌+◌, ◌*◌, ◌-◌, ◌<◌, ◌≤◌, ◌==◌, Bool, true, false, cond, not, ◌&&◌, List, [], ◌∷◌, ◌++◌, map, length, Option, Some, None, if◌then◌else◌, slice_get, slice_index, set, refl, sym, ap, ap₂, ◌∙◌, subst, inl, inr, arith, lt-ltb, le-ltb, le-leb, eq-eqb, ne_eqb, eqb-true, length-append, append-nil}
+use Rattle.std.proofs.Common.{◌≡◌, ◌≢◌, ℕ, zero, suc, ◌+◌, ◌*◌, ◌-◌, ◌<◌, ◌≤◌, ◌==◌, Bool, true, false, cond, not, ◌&&◌, List, [], ◌∷◌, ◌++◌, map, length, Option, Some, None, if◌then◌else◌, slice_get, slice_index, set, refl, sym, ap, ap₂, ◌∙◌, subst, inl, inr, arith, lt-ltb, le-ltb, le-leb, eq-eqb, ne_eqb, eqb-true, true≢false, length-append, append-nil}
 use Rattle.std.specs.List.{flat_map}
 use Rattle.std.specs.Char.{len_utf8}
 use Rattle.std.proofs.lemmas.Bool.{and_parts, cases_lt}
@@ -193,7 +193,7 @@ unfolding size_through
 least_through groups zero t p = least_with _ t p
 least_through groups (suc m) t p = least_with _ t p
 
-least_one : (groups : List Tree) (t : Tree) → IsOneChar t → (size groups t).least ≡ 1
+pub least_one : (groups : List Tree) (t : Tree) → IsOneChar t → (size groups t).least ≡ 1
 unfolding size
 least_one groups t p = least_through groups (length groups) t p
 
@@ -306,7 +306,8 @@ module _ (s : Setting) (groups : List Tree) (unicode : Bool) (call : ℕ → Mov
       tree_same n k (concat ts) p h w q = row_same n k ts p h w q
       tree_same n k (alt ts) p h w q = branches_same n k ts p.0 p.1 h w q
       tree_same n k (group t) p h w q =
-          group_same view len n (meaning s groups call (n + 1) t).from (re_of unicode gs called (n + 1) k t) (lacks unicode gs called n (n + 1) k t (plain_regular _ t p) (below n (n + 1) t (omega arith)))
+          group_same view len n (meaning s groups call (n + 1) t).from (re_of unicode gs called (n + 1) k t)
+          (lacks unicode gs called n false (λ e. absurd (true≢false (sym e))) (n + 1) k t (plain_regular _ false t p) (below n (n + 1) t (omega arith)))
           (tree_same (n + 1) k t p h) w q
       tree_same n k (look_around t how) p h w q = around_same n k t how (re_of unicode gs called n k t) p h w q
       tree_same n k (repeat t lo hi greedy) p h w q =

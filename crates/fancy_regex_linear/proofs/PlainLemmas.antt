@@ -1,7 +1,7 @@
 -- What the pattern of a tree is: sound, numbered from its first group on and, of a plain tree, no heavier than it.
 use Rattle.std.proofs.Common.{◌≡◌, ◌≢◌, ℕ, zero, suc, ◌+◌, ◌*◌, ◌-◌, ◌<◌, ◌≤◌, ◌==◌, min, max, Bool, true, false, cond, not, ◌&&◌, ◌||◌, if◌then◌else◌, List, [], ◌∷◌, length, Option, Some, None, nat_lt, refl, sym, ap, ap₂, ◌∙◌, arith, eq-eqb, ne_eqb, lt-ltb, true≢false}
 use Rattle.std.proofs.Math.Nat.{mul-le-mul_left}
-use Rattle.fancy_regex_tree.specs.Tree.{Tree, Trees, empty, any, assertion, general_newline, literal, concat, alt, group, look_around, repeat, delegate, atomic_group, conditional, verb, continue, define_group, subroutine_call, no_trees, more_trees}
+use Rattle.fancy_regex_tree.specs.Tree.{Tree, Trees, empty, any, assertion, general_newline, literal, concat, alt, group, look_around, repeat, delegate, atomic_group, conditional, verb, keep_out, continue, define_group, subroutine_call, no_trees, more_trees}
 use Rattle.fancy_regex_tree.specs.declared.expr.Assertion.{Assertion}
 use Rattle.fancy_regex_tree.specs.declared.expr.LookAround.{LookAround}
 use Rattle.fancy_regex_meaning.specs.Groups.{group_count}
@@ -125,15 +125,15 @@ if_has P true x y h k = h
 if_has P false x y h k = k
 
 -- a tree of one character becomes a pattern with parts
-one_char_regular : (called : ℕ → Type 0) (t : Tree) → IsOneChar t → IsRegular called t
-one_char_regular called (any newline crlf) p = tt
-one_char_regular called (literal val casei) p = tt
-one_char_regular called (delegate class casei) p = tt
-one_char_regular called _ p = absurd p
+one_char_regular : (resets : Bool) (called : ℕ → Type 0) (t : Tree) → IsOneChar t → IsRegular resets called t
+one_char_regular resets called (any newline crlf) p = tt
+one_char_regular resets called (literal val casei) p = tt
+one_char_regular resets called (delegate class casei) p = tt
+one_char_regular resets called _ p = absurd p
 
 -- so does a look-around for one character
-one_char_look : (called : ℕ → Type 0) (t : Tree) (how : LookAround) → IsOneChar t → IsRegular called (look_around t how)
-one_char_look called t how p = one_char_regular called t p
+one_char_look : (resets : Bool) (called : ℕ → Type 0) (t : Tree) (how : LookAround) → IsOneChar t → IsRegular resets called (look_around t how)
+one_char_look resets called t how p = one_char_regular false called t p
 
 -- a tree of one character has a test
 pub has_leaf : (unicode : Bool) (k : ℕ) (t : Tree) → IsOneChar t → char_leaf unicode k t ≡ None → ⊥
@@ -151,9 +151,9 @@ one_char_classes (delegate class casei) p = refl
 one_char_classes _ p = absurd p
 
 -- a plain tree becomes a pattern with parts, whatever its calls are: it has none
-module _ (called : ℕ → Type 0) where
+module _ (called : ℕ → Type 0) (resets : Bool) where
   mutual
-    pub plain_regular : (t : Tree) → IsPlain t → IsRegular called t
+    pub plain_regular : (t : Tree) → IsPlain t → IsRegular resets called t
     plain_regular empty p = tt
     plain_regular (any newline crlf) p = tt
     plain_regular (literal val casei) p = tt
@@ -162,67 +162,104 @@ module _ (called : ℕ → Type 0) where
     plain_regular (concat ts) p = all_regular ts p
     plain_regular (alt ts) p = (p.0, all_regular ts p.1)
     plain_regular (group t) p = plain_regular t p
-    plain_regular (look_around t how) p = one_char_look called t how p
+    plain_regular (look_around t how) p = one_char_look resets called t how p
     plain_regular (repeat t lo hi greedy) p = λ made. plain_regular t p
     plain_regular _ p = absurd p
 
-    all_regular : (ts : Trees) → ArePlain ts → AreRegular called ts
+    all_regular : (ts : Trees) → ArePlain ts → AreRegular resets called ts
     all_regular no_trees p = tt
     all_regular (more_trees t ts) p = (plain_regular t p.0, all_regular ts p.1)
+
+-- a tree that is regular without `\K` is so where `\K` may be in it
+module _ (called : ℕ → Type 0) (resets : Bool) where
+  mutual
+    pub regular_either : (t : Tree) → IsRegular false called t → IsRegular resets called t
+    regular_either empty p = tt
+    regular_either (any newline crlf) p = tt
+    regular_either (literal val casei) p = tt
+    regular_either (delegate class casei) p = tt
+    regular_either (general_newline wide) p = tt
+    regular_either (assertion a) p = tt
+    regular_either (concat ts) p = all_either ts p
+    regular_either (alt ts) p = (p.0, all_either ts p.1)
+    regular_either (group t) p = regular_either t p
+    regular_either (look_around t how) p = p
+    regular_either (atomic_group t) p = regular_either t p
+    regular_either (conditional c a b) p = (regular_either c p.0, (regular_either a p.1.0, regular_either b p.1.1))
+    regular_either (define_group t) p = tt
+    regular_either (verb v) p = p
+    regular_either keep_out p = absurd (true≢false (sym p))
+    regular_either continue p = tt
+    regular_either (subroutine_call j) p = p
+    regular_either (repeat t lo hi greedy) p = λ made. regular_either t (p made)
+    regular_either _ p = absurd p
+
+    pub all_either : (ts : Trees) → AreRegular false called ts → AreRegular resets called ts
+    all_either no_trees p = tt
+    all_either (more_trees t ts) p = (regular_either t p.0, all_either ts p.1)
+
+pub regular_resets : (called : ℕ → Type 0) (t : Tree) → IsRegular false called t → IsRegular true called t
+regular_resets called t p = regular_either called true t p
+
+pub all_resets : (called : ℕ → Type 0) (ts : Trees) → AreRegular false called ts → AreRegular true called ts
+all_resets called ts p = all_either called true ts p
 
 -- a regular tree is one where its calls are so in another way
 module _ (called other : ℕ → Type 0) (into : (j : ℕ) → called j → other j) where
   mutual
-    pub regular_into : (t : Tree) → IsRegular called t → IsRegular other t
-    regular_into empty p = tt
-    regular_into (any newline crlf) p = tt
-    regular_into (literal val casei) p = tt
-    regular_into (delegate class casei) p = tt
-    regular_into (general_newline wide) p = tt
-    regular_into (assertion a) p = tt
-    regular_into (concat ts) p = all_into ts p
-    regular_into (alt ts) p = (p.0, all_into ts p.1)
-    regular_into (group t) p = regular_into t p
-    regular_into (look_around t how) p = regular_into t p
-    regular_into (atomic_group t) p = regular_into t p
-    regular_into (conditional c a b) p = (regular_into c p.0, (regular_into a p.1.0, regular_into b p.1.1))
-    regular_into (define_group t) p = tt
-    regular_into (verb v) p = p
-    regular_into continue p = tt
-    regular_into (subroutine_call j) p = into j p
-    regular_into (repeat t lo hi greedy) p = λ made. regular_into t (p made)
-    regular_into _ p = absurd p
+    pub regular_into : (resets : Bool) (t : Tree) → IsRegular resets called t → IsRegular resets other t
+    regular_into resets empty p = tt
+    regular_into resets (any newline crlf) p = tt
+    regular_into resets (literal val casei) p = tt
+    regular_into resets (delegate class casei) p = tt
+    regular_into resets (general_newline wide) p = tt
+    regular_into resets (assertion a) p = tt
+    regular_into resets (concat ts) p = all_into resets ts p
+    regular_into resets (alt ts) p = (p.0, all_into resets ts p.1)
+    regular_into resets (group t) p = regular_into resets t p
+    regular_into resets (look_around t how) p = regular_into false t p
+    regular_into resets (atomic_group t) p = regular_into resets t p
+    regular_into resets (conditional c a b) p = (regular_into resets c p.0, (regular_into resets a p.1.0, regular_into resets b p.1.1))
+    regular_into resets (define_group t) p = tt
+    regular_into resets (verb v) p = p
+    regular_into resets keep_out p = p
+    regular_into resets continue p = tt
+    regular_into resets (subroutine_call j) p = into j p
+    regular_into resets (repeat t lo hi greedy) p = λ made. regular_into resets t (p made)
+    regular_into resets _ p = absurd p
 
-    pub all_into : (ts : Trees) → AreRegular called ts → AreRegular other ts
-    all_into no_trees p = tt
-    all_into (more_trees t ts) p = (regular_into t p.0, all_into ts p.1)
+    pub all_into : (resets : Bool) (ts : Trees) → AreRegular resets called ts → AreRegular resets other ts
+    all_into resets no_trees p = tt
+    all_into resets (more_trees t ts) p = (regular_into resets t p.0, all_into resets ts p.1)
 
 -- a tree that is regular where its calls are so, and where they are so in another way, is where they are so in both
 module _ (called other : ℕ → Type 0) where
   mutual
-    pub regular_both : (t : Tree) → IsRegular called t → IsRegular other t → IsRegular (λ j. called j × other j) t
-    regular_both empty p q = tt
-    regular_both (any newline crlf) p q = tt
-    regular_both (literal val casei) p q = tt
-    regular_both (delegate class casei) p q = tt
-    regular_both (general_newline wide) p q = tt
-    regular_both (assertion a) p q = tt
-    regular_both (concat ts) p q = all_both ts p q
-    regular_both (alt ts) p q = (p.0, all_both ts p.1 q.1)
-    regular_both (group t) p q = regular_both t p q
-    regular_both (look_around t how) p q = regular_both t p q
-    regular_both (atomic_group t) p q = regular_both t p q
-    regular_both (conditional c a b) p q = (regular_both c p.0 q.0, (regular_both a p.1.0 q.1.0, regular_both b p.1.1 q.1.1))
-    regular_both (define_group t) p q = tt
-    regular_both (verb v) p q = p
-    regular_both continue p q = tt
-    regular_both (subroutine_call j) p q = (p, q)
-    regular_both (repeat t lo hi greedy) p q = λ made. regular_both t (p made) (q made)
-    regular_both _ p q = absurd p
+    pub regular_both : (resets : Bool) (t : Tree) → IsRegular resets called t → IsRegular resets other t → IsRegular resets (λ j. called j × other j) t
+    regular_both resets empty p q = tt
+    regular_both resets (any newline crlf) p q = tt
+    regular_both resets (literal val casei) p q = tt
+    regular_both resets (delegate class casei) p q = tt
+    regular_both resets (general_newline wide) p q = tt
+    regular_both resets (assertion a) p q = tt
+    regular_both resets (concat ts) p q = all_both resets ts p q
+    regular_both resets (alt ts) p q = (p.0, all_both resets ts p.1 q.1)
+    regular_both resets (group t) p q = regular_both resets t p q
+    regular_both resets (look_around t how) p q = regular_both false t p q
+    regular_both resets (atomic_group t) p q = regular_both resets t p q
+    regular_both resets (conditional c a b) p q =
+        (regular_both resets c p.0 q.0, (regular_both resets a p.1.0 q.1.0, regular_both resets b p.1.1 q.1.1))
+    regular_both resets (define_group t) p q = tt
+    regular_both resets (verb v) p q = p
+    regular_both resets keep_out p q = p
+    regular_both resets continue p q = tt
+    regular_both resets (subroutine_call j) p q = (p, q)
+    regular_both resets (repeat t lo hi greedy) p q = λ made. regular_both resets t (p made) (q made)
+    regular_both resets _ p q = absurd p
 
-    all_both : (ts : Trees) → AreRegular called ts → AreRegular other ts → AreRegular (λ j. called j × other j) ts
-    all_both no_trees p q = tt
-    all_both (more_trees t ts) p q = (regular_both t p.0 q.0, all_both ts p.1 q.1)
+    all_both : (resets : Bool) (ts : Trees) → AreRegular resets called ts → AreRegular resets other ts → AreRegular resets (λ j. called j × other j) ts
+    all_both resets no_trees p q = tt
+    all_both resets (more_trees t ts) p q = (regular_both resets t p.0 q.0, all_both resets ts p.1 q.1)
 
 -- a look-around for one character is a test
 module _ (unicode : Bool) (groups : List Tree) (called : ℕ → Re) (n k : ℕ) (how : LookAround) (body : Re) where
@@ -307,46 +344,55 @@ module _ (unicode : Bool) (groups : List Tree) (called : ℕ → Re) (m : ℕ) w
   mutual
     unfolding re_of around each_around
 
-    -- a group that is not in the tree and is not written by its calls is not in the pattern
-    pub lacks : (n k : ℕ) (t : Tree) → IsRegular CallLacks t → Misses m n t → Lacks m (re_of unicode groups called n k t)
-    lacks n k empty p h = tt
-    lacks n k (any newline crlf) p h = tt
-    lacks n k (literal val casei) p h = tt
-    lacks n k (delegate class casei) p h = tt
-    lacks n k (general_newline wide) p h = lacks_newline m wide
-    lacks n k (assertion a) p h = lacks_served m a (test_of a)
-    lacks n k (concat ts) p h = row_lacks n k ts p h
-    lacks n k (alt ts) p h = branches_lack n k ts p.1 h
-    lacks n k (look_around t how) p h = around_lacks n k how (re_of unicode groups called n k t) t p h (lacks n k t p h)
-    lacks n k (atomic_group t) p h = lacks n k t p h
-    lacks n k (conditional c a b) p h = (lacks n k c p.0 h.0, (lacks _ _ a p.1.0 h.1.0, lacks _ _ b p.1.1 h.1.1))
-    lacks n k (define_group t) p h = tt
-    lacks n k (verb v) p h = tt
-    lacks n k continue p h = tt
-    lacks n k (subroutine_call j) p h = p
-    lacks n k (group t) p h = (h.0, lacks (n + 1) k t p h.1)
-    lacks n k (repeat t lo hi greedy) p h = out_lacks m (has_no_iteration lo hi) _ (λ made. lacks n k t (p made) (h made))
-    lacks n k _ p h = absurd p
+    -- A group that is not in the tree and is not written by its calls is not in the pattern. `\K` writes group 0.
+    pub lacks : (resets : Bool) → (resets ≡ true → 1 ≤ m) → (n k : ℕ) (t : Tree) → IsRegular resets CallLacks t → Misses m n t
+        → Lacks m (re_of unicode groups called n k t)
+    lacks resets low n k empty p h = tt
+    lacks resets low n k (any newline crlf) p h = tt
+    lacks resets low n k (literal val casei) p h = tt
+    lacks resets low n k (delegate class casei) p h = tt
+    lacks resets low n k (general_newline wide) p h = lacks_newline m wide
+    lacks resets low n k (assertion a) p h = lacks_served m a (test_of a)
+    lacks resets low n k (concat ts) p h = row_lacks resets low n k ts p h
+    lacks resets low n k (alt ts) p h = branches_lack resets low n k ts p.1 h
+    lacks resets low n k (look_around t how) p h =
+        around_lacks n k how (re_of unicode groups called n k t) t p h (lacks false (λ e. absurd (true≢false (sym e))) n k t p h)
+    lacks resets low n k (atomic_group t) p h = lacks resets low n k t p h
+    lacks resets low n k (conditional c a b) p h =
+        (lacks resets low n k c p.0 h.0, (lacks resets low _ _ a p.1.0 h.1.0, lacks resets low _ _ b p.1.1 h.1.1))
+    lacks resets low n k (define_group t) p h = tt
+    lacks resets low n k (verb v) p h = tt
+    lacks resets low n k keep_out p h = ((λ e. let le = low p in omega (arith, e, le)), tt)
+    lacks resets low n k continue p h = tt
+    lacks resets low n k (subroutine_call j) p h = p
+    lacks resets low n k (group t) p h = (h.0, lacks resets low (n + 1) k t p h.1)
+    lacks resets low n k (repeat t lo hi greedy) p h = out_lacks m (has_no_iteration lo hi) _ (λ made. lacks resets low n k t (p made) (h made))
+    lacks resets low n k _ p h = absurd p
 
-    row_lacks : (n k : ℕ) (ts : Trees) → AreRegular CallLacks ts → MissesRow m n ts → Lacks m (row_of unicode groups called n k ts)
-    row_lacks n k no_trees p h = tt
-    row_lacks n k (more_trees t ts) p h = (lacks n k t p.0 h.0, row_lacks _ _ ts p.1 h.1)
+    row_lacks : (resets : Bool) → (resets ≡ true → 1 ≤ m) → (n k : ℕ) (ts : Trees) → AreRegular resets CallLacks ts → MissesRow m n ts
+        → Lacks m (row_of unicode groups called n k ts)
+    row_lacks resets low n k no_trees p h = tt
+    row_lacks resets low n k (more_trees t ts) p h = (lacks resets low n k t p.0 h.0, row_lacks resets low _ _ ts p.1 h.1)
 
-    branches_lack : (n k : ℕ) (ts : Trees) → AreRegular CallLacks ts → MissesRow m n ts → Lacks m (branches_of unicode groups called n k ts)
-    branches_lack n k no_trees p h = tt
-    branches_lack n k (more_trees t no_trees) p h = lacks n k t p.0 h.0
-    branches_lack n k (more_trees t (more_trees u us)) p h = (lacks n k t p.0 h.0, branches_lack _ _ (more_trees u us) p.1 h.1)
+    branches_lack : (resets : Bool) → (resets ≡ true → 1 ≤ m) → (n k : ℕ) (ts : Trees) → AreRegular resets CallLacks ts → MissesRow m n ts
+        → Lacks m (branches_of unicode groups called n k ts)
+    branches_lack resets low n k no_trees p h = tt
+    branches_lack resets low n k (more_trees t no_trees) p h = lacks resets low n k t p.0 h.0
+    branches_lack resets low n k (more_trees t (more_trees u us)) p h =
+        (lacks resets low n k t p.0 h.0, branches_lack resets low _ _ (more_trees u us) p.1 h.1)
 
-    around_lacks : (n k : ℕ) (how : LookAround) (body : Re) (t : Tree) → IsRegular CallLacks t → Misses m n t → Lacks m body
+    around_lacks : (n k : ℕ) (how : LookAround) (body : Re) (t : Tree) → IsRegular false CallLacks t → Misses m n t → Lacks m body
         → Lacks m (around unicode groups called n k how body t)
     around_lacks n k how body (alt ts) p h b =
         if_has (Lacks m) (is_look_behind how && not (size groups (alt ts)).always) _ _
         (joined_lack m (is_negated_look how) (each_around unicode groups called n k how ts) (each_lack n k how ts p.1 h)) b
     around_lacks n k how body t p h b = lacks_looked m how (char_leaf unicode k t) (re.ask (is_negated_look how) (steps_back groups how t) body) b
 
-    each_lack : (n k : ℕ) (how : LookAround) (ts : Trees) → AreRegular CallLacks ts → MissesRow m n ts → AllOf (Lacks m) (each_around unicode groups called n k how ts)
+    each_lack : (n k : ℕ) (how : LookAround) (ts : Trees) → AreRegular false CallLacks ts → MissesRow m n ts
+        → AllOf (Lacks m) (each_around unicode groups called n k how ts)
     each_lack n k how no_trees p h = tt
-    each_lack n k how (more_trees t ts) p h = (around_lacks n k how _ t p.0 h.0 (lacks n k t p.0 h.0), each_lack _ _ how ts p.1 h.1)
+    each_lack n k how (more_trees t ts) p h =
+        (around_lacks n k how _ t p.0 h.0 (lacks false (λ e. absurd (true≢false (sym e))) n k t p.0 h.0), each_lack _ _ how ts p.1 h.1)
 
 -- a look-around is never sure to move
 module _ (unicode : Bool) (groups : List Tree) (called : ℕ → Re) where
@@ -402,12 +448,12 @@ repeat_empties (suc lo) hi least greedy x true e h = absurd (true≢false (sym e
 repeat_empties lo hi least greedy x false e h = product_zero lo least ∙ ap₂ ◌||◌ (zero_test lo) (h refl) ∙ not_and (nat_lt 0 lo) (never_empty x)
 
 module _ (unicode : Bool) (groups : List Tree) (called : ℕ → Re) (call : ℕ → Size) (known : ℕ → Type 0)
-    (call_empties : (j : ℕ) → known j → ((call j).least == 0) ≡ not (never_empty (called j))) where
+    (call_empties : (j : ℕ) → known j → ((call j).least == 0) ≡ not (never_empty (called j))) (resets : Bool) where
   mutual
     unfolding re_of size_with
 
     -- a tree may be empty exactly where its pattern may
-    pub empties : (n k : ℕ) (t : Tree) → IsRegular known t → ((size_with call t).least == 0) ≡ not (never_empty (re_of unicode groups called n k t))
+    pub empties : (n k : ℕ) (t : Tree) → IsRegular resets known t → ((size_with call t).least == 0) ≡ not (never_empty (re_of unicode groups called n k t))
     empties n k empty p = refl
     empties n k (any newline crlf) p = refl
     empties n k (literal val casei) p = refl
@@ -427,18 +473,19 @@ module _ (unicode : Bool) (groups : List Tree) (called : ℕ → Re) (call : ℕ
         ∙ not_and _ _
     empties n k (define_group t) p = refl
     empties n k (verb v) p = refl
+    empties n k keep_out p = refl
     empties n k continue p = refl
     empties n k (subroutine_call j) p = call_empties j p
     empties n k (repeat t lo hi greedy) p =
         repeat_empties lo hi (size_with call t).least greedy (re_of unicode groups called n k t) (has_no_iteration lo hi) refl (λ made. empties n k t (p made))
     empties n k _ p = absurd p
 
-    row_empties : (n k : ℕ) (ts : Trees) → AreRegular known ts → ((concat_size call ts).least == 0) ≡ not (never_empty (row_of unicode groups called n k ts))
+    row_empties : (n k : ℕ) (ts : Trees) → AreRegular resets known ts → ((concat_size call ts).least == 0) ≡ not (never_empty (row_of unicode groups called n k ts))
     row_empties n k no_trees p = refl
     row_empties n k (more_trees t ts) p =
         sum_zero (size_with call t).least (concat_size call ts).least ∙ ap₂ ◌&&◌ (empties n k t p.0) (row_empties _ _ ts p.1) ∙ not_or _ _
 
-    branch_empties : (n k : ℕ) (ts : Trees) → (ts ≢ no_trees) → AreRegular known ts → ((alternation_size call ts).least == 0) ≡ not (never_empty (branches_of unicode groups called n k ts))
+    branch_empties : (n k : ℕ) (ts : Trees) → (ts ≢ no_trees) → AreRegular resets known ts → ((alternation_size call ts).least == 0) ≡ not (never_empty (branches_of unicode groups called n k ts))
     branch_empties n k no_trees some p = absurd (some refl)
     branch_empties n k (more_trees t no_trees) some p = empties n k t p.0
     branch_empties n k (more_trees t (more_trees u us)) some p =
@@ -459,15 +506,17 @@ abbrev pub NoCall : ℕ → Type 0
 NoCall j = ⊥
 
 module _ (unicode : Bool) (groups : List Tree) (called : ℕ → Re) where
-  empties_through : (all : List Tree) (m n k : ℕ) (t : Tree) → IsRegular NoCall t → ((size_through all m t).least == 0) ≡ not (never_empty (re_of unicode groups called n k t))
+  empties_through : (resets : Bool) (all : List Tree) (m n k : ℕ) (t : Tree) → IsRegular resets NoCall t
+      → ((size_through all m t).least == 0) ≡ not (never_empty (re_of unicode groups called n k t))
   unfolding size_through
-  empties_through all zero n k t p = empties unicode groups called _ NoCall (λ j none. absurd none) n k t p
-  empties_through all (suc m) n k t p = empties unicode groups called _ NoCall (λ j none. absurd none) n k t p
+  empties_through resets all zero n k t p = empties unicode groups called _ NoCall (λ j none. absurd none) resets n k t p
+  empties_through resets all (suc m) n k t p = empties unicode groups called _ NoCall (λ j none. absurd none) resets n k t p
 
   -- a tree without calls is never empty where it may not be
-  pub flag_is : (all : List Tree) (n k : ℕ) (t : Tree) → IsRegular NoCall t → not (may_be_empty all t) ≡ never_empty (re_of unicode groups called n k t)
+  pub flag_is : (resets : Bool) (all : List Tree) (n k : ℕ) (t : Tree) → IsRegular resets NoCall t
+      → not (may_be_empty all t) ≡ never_empty (re_of unicode groups called n k t)
   unfolding size
-  flag_is all n k t p = ap not (empties_through all (length all) n k t p) ∙ not_twice _
+  flag_is resets all n k t p = ap not (empties_through resets all (length all) n k t p) ∙ not_twice _
 
   -- what is called is sound
   abbrev CallSound : ℕ → Type 0
@@ -476,47 +525,48 @@ module _ (unicode : Bool) (groups : List Tree) (called : ℕ → Re) where
   mutual
     unfolding re_of around each_around
 
-    pub regular_sound : (n k : ℕ) (t : Tree) → IsRegular CallSound t → IsSound (re_of unicode groups called n k t)
-    regular_sound n k empty p = tt
-    regular_sound n k (any newline crlf) p = tt
-    regular_sound n k (literal val casei) p = tt
-    regular_sound n k (delegate class casei) p = tt
-    regular_sound n k (general_newline wide) p = sound_newline wide
-    regular_sound n k (assertion a) p = sound_served a (test_of a)
-    regular_sound n k (concat ts) p = row_sound n k ts p
-    regular_sound n k (alt ts) p = branches_sound n k ts p.1
-    regular_sound n k (group t) p = regular_sound (n + 1) k t p
-    regular_sound n k (look_around t how) p = around_sound n k how (re_of unicode groups called n k t) t p (regular_sound n k t p)
-    regular_sound n k (atomic_group t) p = regular_sound n k t p
-    regular_sound n k (conditional c a b) p = (regular_sound n k c p.0, (regular_sound _ _ a p.1.0, regular_sound _ _ b p.1.1))
-    regular_sound n k (define_group t) p = tt
-    regular_sound n k (verb v) p = tt
-    regular_sound n k continue p = tt
-    regular_sound n k (subroutine_call j) p = p
-    regular_sound n k (repeat t lo hi greedy) p = out_sound (has_no_iteration lo hi) _ (λ made. (λ moves. moves, regular_sound n k t (p made)))
-    regular_sound n k _ p = absurd p
+    pub regular_sound : (resets : Bool) (n k : ℕ) (t : Tree) → IsRegular resets CallSound t → IsSound (re_of unicode groups called n k t)
+    regular_sound resets n k empty p = tt
+    regular_sound resets n k (any newline crlf) p = tt
+    regular_sound resets n k (literal val casei) p = tt
+    regular_sound resets n k (delegate class casei) p = tt
+    regular_sound resets n k (general_newline wide) p = sound_newline wide
+    regular_sound resets n k (assertion a) p = sound_served a (test_of a)
+    regular_sound resets n k (concat ts) p = row_sound resets n k ts p
+    regular_sound resets n k (alt ts) p = branches_sound resets n k ts p.1
+    regular_sound resets n k (group t) p = regular_sound resets (n + 1) k t p
+    regular_sound resets n k (look_around t how) p = around_sound n k how (re_of unicode groups called n k t) t p (regular_sound false n k t p)
+    regular_sound resets n k (atomic_group t) p = regular_sound resets n k t p
+    regular_sound resets n k (conditional c a b) p = (regular_sound resets n k c p.0, (regular_sound resets _ _ a p.1.0, regular_sound resets _ _ b p.1.1))
+    regular_sound resets n k (define_group t) p = tt
+    regular_sound resets n k (verb v) p = tt
+    regular_sound resets n k keep_out p = tt
+    regular_sound resets n k continue p = tt
+    regular_sound resets n k (subroutine_call j) p = p
+    regular_sound resets n k (repeat t lo hi greedy) p = out_sound (has_no_iteration lo hi) _ (λ made. (λ moves. moves, regular_sound resets n k t (p made)))
+    regular_sound resets n k _ p = absurd p
 
-    row_sound : (n k : ℕ) (ts : Trees) → AreRegular CallSound ts → IsSound (row_of unicode groups called n k ts)
-    row_sound n k no_trees p = tt
-    row_sound n k (more_trees t ts) p = (regular_sound n k t p.0, row_sound _ _ ts p.1)
+    row_sound : (resets : Bool) (n k : ℕ) (ts : Trees) → AreRegular resets CallSound ts → IsSound (row_of unicode groups called n k ts)
+    row_sound resets n k no_trees p = tt
+    row_sound resets n k (more_trees t ts) p = (regular_sound resets n k t p.0, row_sound resets _ _ ts p.1)
 
-    branches_sound : (n k : ℕ) (ts : Trees) → AreRegular CallSound ts → IsSound (branches_of unicode groups called n k ts)
-    branches_sound n k no_trees p = tt
-    branches_sound n k (more_trees t no_trees) p = regular_sound n k t p.0
-    branches_sound n k (more_trees t (more_trees u us)) p = (regular_sound n k t p.0, branches_sound _ _ (more_trees u us) p.1)
+    branches_sound : (resets : Bool) (n k : ℕ) (ts : Trees) → AreRegular resets CallSound ts → IsSound (branches_of unicode groups called n k ts)
+    branches_sound resets n k no_trees p = tt
+    branches_sound resets n k (more_trees t no_trees) p = regular_sound resets n k t p.0
+    branches_sound resets n k (more_trees t (more_trees u us)) p = (regular_sound resets n k t p.0, branches_sound resets _ _ (more_trees u us) p.1)
 
-    around_sound : (n k : ℕ) (how : LookAround) (body : Re) (t : Tree) → IsRegular CallSound t → IsSound body → IsSound (around unicode groups called n k how body t)
+    around_sound : (n k : ℕ) (how : LookAround) (body : Re) (t : Tree) → IsRegular false CallSound t → IsSound body → IsSound (around unicode groups called n k how body t)
     around_sound n k how body (alt ts) p b =
         if_has IsSound (is_look_behind how && not (size groups (alt ts)).always) _ _
         (joined_sound (is_negated_look how) (each_around unicode groups called n k how ts) (each_sound n k how ts p.1)) b
     around_sound n k how body t p b = sound_looked how (char_leaf unicode k t) (re.ask (is_negated_look how) (steps_back groups how t) body) b
 
-    each_sound : (n k : ℕ) (how : LookAround) (ts : Trees) → AreRegular CallSound ts → AllOf IsSound (each_around unicode groups called n k how ts)
+    each_sound : (n k : ℕ) (how : LookAround) (ts : Trees) → AreRegular false CallSound ts → AllOf IsSound (each_around unicode groups called n k how ts)
     each_sound n k how no_trees p = tt
-    each_sound n k how (more_trees t ts) p = (around_sound n k how _ t p.0 (regular_sound n k t p.0), each_sound _ _ how ts p.1)
+    each_sound n k how (more_trees t ts) p = (around_sound n k how _ t p.0 (regular_sound false n k t p.0), each_sound _ _ how ts p.1)
 
   pub sound : (n k : ℕ) (t : Tree) → IsPlain t → IsSound (re_of unicode groups called n k t)
-  sound n k t p = regular_sound n k t (plain_regular CallSound t p)
+  sound n k t p = regular_sound false n k t (plain_regular CallSound false t p)
 
   mutual
     unfolding re_of
@@ -570,7 +620,7 @@ module _ (unicode : Bool) (groups : List Tree) (called : ℕ → Re) where
       light n k (look_around t how) p = omega (arith, look_light unicode groups called n k how (re_of unicode groups called n k t) t p)
       light n k (repeat t lo hi greedy) p =
           out_light (has_no_iteration lo hi) _ _ (lighter (is_unbounded hi) (may_be_empty all t) (never_empty (re_of unicode groups called n k t)) lo hi _ _
-          (flag_is all n k t (plain_regular NoCall t p)) (light n k t p))
+          (flag_is false all n k t (plain_regular NoCall false t p)) (light n k t p))
       light n k _ p = absurd p
 
       row_light : (n k : ℕ) (ts : Trees) → ArePlain ts → weight (row_of unicode groups called n k ts) ≤ weights all ts

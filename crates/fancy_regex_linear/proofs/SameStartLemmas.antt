@@ -1,9 +1,9 @@
--- The ways of a regular tree keep the start that the match will be said to have.
-use Rattle.std.proofs.Common.{◌≡◌, ℕ, zero, suc, ◌+◌, ◌-◌, ◌==◌, Bool, true, false, ◌&&◌, List, [], ◌∷◌, length, Option, Some, None, if◌then◌else◌, refl, ◌∙◌}
+-- The ways of a tree that is regular without `\K` keep the start that the match will be said to have.
+use Rattle.std.proofs.Common.{◌≡◌, ℕ, zero, suc, ◌+◌, ◌-◌, ◌==◌, Bool, true, false, ◌&&◌, List, [], ◌∷◌, length, Option, Some, None, if◌then◌else◌, true≢false, refl, sym, ◌∙◌}
 use Rattle.std.specs.List.{flat_map}
 use Rattle.std.specs.Char.{len_utf8}
 use Rattle.regex_hir.specs.Text.{char_at}
-use Rattle.fancy_regex_tree.specs.Tree.{Tree, Trees, empty, any, assertion, general_newline, literal, concat, alt, group, look_around, repeat, delegate, atomic_group, conditional, verb, continue, define_group, subroutine_call, no_trees, more_trees}
+use Rattle.fancy_regex_tree.specs.Tree.{Tree, Trees, empty, any, assertion, general_newline, literal, concat, alt, group, look_around, repeat, delegate, atomic_group, conditional, verb, keep_out, continue, define_group, subroutine_call, no_trees, more_trees}
 use Rattle.fancy_regex_tree.specs.declared.expr.LookAround.{LookAround}
 use Rattle.fancy_regex_tree.specs.declared.expr.LookAround.TheVariants.{LookAhead, LookAheadNeg, LookBehind, LookBehindNeg}
 use Rattle.fancy_regex_meaning.specs.Groups.{group_count}
@@ -92,7 +92,7 @@ module _ (s : Setting) (groups : List Tree) (call : ℕ → Moves) (known : ℕ 
   mutual
     unfolding meaning
 
-    pub regular_keeps_start : (n : ℕ) (t : Tree) → IsRegular known t → KeepsStart (meaning s groups call n t).from
+    pub regular_keeps_start : (n : ℕ) (t : Tree) → IsRegular false known t → KeepsStart (meaning s groups call n t).from
     regular_keeps_start n empty p w = (refl, tt)
     regular_keeps_start n (any newline crlf) p w = char_keeps _ w (char_at s.text w.position)
     regular_keeps_start n (literal val casei) p w = char_keeps _ w (char_at s.text w.position)
@@ -116,19 +116,20 @@ module _ (s : Setting) (groups : List Tree) (call : ℕ → Moves) (known : ℕ 
         (regular_keeps_start (n + group_count c) a p.1.0) (regular_keeps_start (n + group_count c + group_count a) b p.1.1)
     regular_keeps_start n (define_group t) p w = (refl, tt)
     regular_keeps_start n (verb v) p w = tt
+    regular_keeps_start n keep_out p w = absurd (true≢false (sym p))
     regular_keeps_start n continue p w = if_keeps _ w w refl
     regular_keeps_start n _ p w = absurd p
 
-    row_keeps : (n : ℕ) (ts : Trees) → AreRegular known ts → KeepsStart (all_of (meanings s groups call n ts))
+    row_keeps : (n : ℕ) (ts : Trees) → AreRegular false known ts → KeepsStart (all_of (meanings s groups call n ts))
     row_keeps n no_trees p w = (refl, tt)
     row_keeps n (more_trees t ts) p w =
         follow w (all_of (meanings s groups call (n + group_count t) ts)) ((meaning s groups call n t).from w) (row_keeps (n + group_count t) ts p.1) (regular_keeps_start n t p.0 w)
 
-    branches_keeps : (n : ℕ) (ts : Trees) → AreRegular known ts → KeepsStart (any_of (meanings s groups call n ts)).from
+    pub branches_keeps : (n : ℕ) (ts : Trees) → AreRegular false known ts → KeepsStart (any_of (meanings s groups call n ts)).from
     branches_keeps n no_trees p w = tt
     branches_keeps n (more_trees t ts) p w =
         Each-append (λ v. v.match_start ≡ w.match_start) ((meaning s groups call n t).from w) ((any_of (meanings s groups call (n + group_count t) ts)).from w) (regular_keeps_start n t p.0 w) (branches_keeps (n + group_count t) ts p.1 w)
 
 -- a plain tree has no calls
 pub keeps_start : (s : Setting) (groups : List Tree) (call : ℕ → Moves) (n : ℕ) (t : Tree) → IsPlain t → KeepsStart (meaning s groups call n t).from
-keeps_start s groups call n t p = regular_keeps_start s groups call (λ j. ⊥) (λ j none. absurd none) n t (plain_regular (λ j. ⊥) t p)
+keeps_start s groups call n t p = regular_keeps_start s groups call (λ j. ⊥) (λ j none. absurd none) n t (plain_regular (λ j. ⊥) false t p)

@@ -1,5 +1,5 @@
 -- The states of a pattern whose calls are written out, from what was translated; and why a class of it is refused.
-use Rattle.std.proofs.Common.{◌≡◌, ◌∙◌, ℕ, Bool, List, [], ◌∷◌, ◌++◌, length, refl, sym, ap, ap₂, subst, inl, inr}
+use Rattle.std.proofs.Common.{◌≡◌, ◌∙◌, ℕ, Bool, true, List, [], ◌∷◌, ◌++◌, length, refl, sym, ap, ap₂, subst, inl, inr}
 use Rattle.fancy_regex_tree.specs.Tree.{Tree}
 use Rattle.fancy_regex_meaning.specs.Groups.{Pattern}
 use Rattle.fancy_regex_meaning.specs.Sizes.{target}
@@ -11,7 +11,7 @@ use Rattle.fancy_regex_info.specs.declared.error.CompileError.TheVariants.{Inner
 use Rattle.fancy_regex_linear.specs.Re.{Re, shape}
 use Rattle.fancy_regex_linear.specs.Program.{emitted, IsSound}
 use Rattle.fancy_regex_linear.specs.Plain.{classes, re_of}
-use Rattle.fancy_regex_linear.specs.Calls.{IsOfTree, greatest_nesting, IsCallable, IsCalled}
+use Rattle.fancy_regex_linear.specs.Calls.{IsOfTree, has_own_span, greatest_nesting, IsCallable, IsWrittenOut, IsCalled}
 use Rattle.fancy_regex_linear.specs.CalledClasses.{IsReached, IsBodyCause, IsWrittenCause}
 use Rattle.fancy_regex_linear.specs.CallMarks.{WritesCalls}
 use Rattle.fancy_regex_linear.specs.Refusals.{IsClassCause, ShowsClass}
@@ -22,6 +22,7 @@ use Rattle.fancy_regex_linear.specs.declared.node.Node.{Node}
 use Rattle.fancy_regex_states.specs.declared.state.State.{State}
 use Rattle.fancy_regex_states.specs.declared.state.State.TheVariants.{Match as End}
 use Rattle.fancy_regex_linear.proofs.PlainLemmas.{regular_into}
+use Rattle.fancy_regex_linear.proofs.KeepLemmas.{regular_true}
 use Rattle.fancy_regex_linear.proofs.ApartLemmas.{of_some, some_body}
 use Rattle.fancy_regex_linear.proofs.CallTableLemmas.{called_on}
 use Rattle.fancy_regex_linear.proofs.CalleeLemmas.{have_count, stand_last}
@@ -39,20 +40,23 @@ module _ (unicode : Bool) (pattern : Pattern) (groups : List Tree) (u : Tree) (s
   shape_of before node same first sized made is =
       let deep = greatest_nesting (length pattern.groups) in
       let writable : IsWritable u =
-      subst IsWritable (sym same_tree) (regular_into (IsCallable pattern.groups deep) (λ j. Unit {0}) (λ j h. tt) pattern.tree made.regular) in
+      subst IsWritable (sym same_tree)
+      (regular_true (λ j. Unit {0}) (has_own_span pattern) pattern.tree
+      (regular_into (IsCallable pattern.groups deep) (λ j. Unit {0}) (λ j h. tt) (has_own_span pattern) pattern.tree made.regular)) in
       let calls = called_in before.called.items in
       let base = length before.matchers.items in
       is writable groups sized
       ∙ ap₂ (λ (b : Bool) (t : Tree). re_of b groups calls before.next_group base t) same same_tree
       ∙ ap₂ (λ (gs : List Tree) (n : ℕ). re_of unicode gs calls n base pattern.tree) same_groups first
 
-  pub are_states : IsOfTree pattern → (before after : Translator) (node : Node) (states : List State) (entry : ℕ) → before.unicode ≡ unicode
+  pub are_states : IsOfTree pattern → (resets : Bool) → (resets ≡ true → has_own_span pattern ≡ true) → IsWrittenOut pattern.groups resets pattern.tree
+      → (before after : Translator) (node : Node) (states : List State) (entry : ℕ) → before.unicode ≡ unicode
       → before.next_group ≡ pattern.first_group → AreCallSizes groups before.sizes.items → IsMadeFor pattern → WritesCalls groups u unicode before
       → (IsWritable u → (gs : List Tree) → AreCallSizes gs before.sizes.items
       → shape node ≡ re_of before.unicode gs (called_in before.called.items) before.next_group (length before.matchers.items) u)
       → Extends before.unicode before.matchers.items after.matchers.items (classes u) → IsSound (shape node)
-      → emitted (shape node) (End ∷ []) 0 ≡ (states, entry) → AreRegularStates unicode states entry after.matchers.items pattern
-  are_states of before after node states entry same first sized made writes is adds sound program =
+      → emitted (shape node) (End ∷ []) 0 ≡ (states, entry) → AreRegularStates unicode resets states entry after.matchers.items pattern
+  are_states of resets own out before after node states entry same first sized made writes is adds sound program =
       let calls = called_in before.called.items in
       let base = length before.matchers.items in
       let pattern_is = shape_of before node same first sized made is in
@@ -67,10 +71,11 @@ module _ (unicode : Bool) (pattern : Pattern) (groups : List Tree) (u : Tree) (s
         all_classes = all.all_classes ++ classes pattern.tree;
         base = base;
         called = calls;
+        own_span = own;
         regular =
             regular_into (λ j. IsCalled pattern.groups unicode all.all_classes deep j (calls j))
             (λ j. IsCalled pattern.groups unicode (all.all_classes ++ classes pattern.tree) deep j (calls j))
-            (λ j h. called_on pattern.groups unicode all.all_classes (classes pattern.tree) deep j (calls j) h) pattern.tree (all.calls made.regular);
+            (λ j h. called_on pattern.groups unicode all.all_classes (classes pattern.tree) deep j (calls j) h) resets pattern.tree (all.calls resets out);
         program = subst (λ (x : Re). emitted x (End ∷ []) 0 ≡ (states, entry)) pattern_is program;
         sound = subst IsSound pattern_is sound;
         stand = stand_last all.all_classes (classes pattern.tree) base (have_count unicode before.matchers.items all.all_classes all.matchers);

@@ -1,5 +1,5 @@
 -- Marks of the groups that are called, and tables of what calls become.
-use Rattle.std.specs.Prelude.{◌≡◌, ◌<◌, ℕ, suc, ◌+◌, Bool, true, List, [], ◌++◌, length, slice_get, Option, Some, None, Vec}
+use Rattle.std.specs.Prelude.{◌≡◌, ◌<◌, ℕ, suc, ◌+◌, Bool, true, false, List, [], ◌++◌, length, slice_get, Option, Some, None, Vec}
 use Rattle.std.specs.Global.{Global}
 use Rattle.fancy_regex_tree.specs.Tree.{Tree, Trees, Text}
 use Rattle.fancy_regex_meaning.specs.Sizes.{target}
@@ -20,10 +20,10 @@ pub record KeepsMarks (before after : List Bool) : Type 0 where
 
 -- each group that a tree calls is marked, if it has a mark
 abbrev pub AllMarked : List Bool → Tree → Type 0
-AllMarked marks t = IsRegular (λ j. j < length marks) t → IsRegular (λ j. mark_at marks j ≡ true) t
+AllMarked marks t = IsRegular true (λ j. j < length marks) t → IsRegular true (λ j. mark_at marks j ≡ true) t
 
 abbrev pub RowMarked : List Bool → Trees → Type 0
-RowMarked marks ts = AreRegular (λ j. j < length marks) ts → AreRegular (λ j. mark_at marks j ≡ true) ts
+RowMarked marks ts = AreRegular true (λ j. j < length marks) ts → AreRegular true (λ j. mark_at marks j ≡ true) ts
 
 -- what is called from the bodies of marked groups is marked in the next table
 pub record FollowsMarks (groups : List Tree) (marks next : List Bool) : Type 0 where
@@ -61,9 +61,9 @@ AreKnown groups depth marks called = (j : ℕ) → mark_at marks j ≡ true → 
 -- What a call of a group becomes, if it is called and each call in its body is known: the body is translated.
 abbrev pub IsCalleeOf : List Bool → Bool → Tree → ℕ → Translator → Translator → Option Callee → Type 0
 IsCalleeOf known is_called body group before after None =
-    (after.matchers ≡ before.matchers) × (is_called ≡ true → IsRegular (λ i. mark_at known i ≡ true) body → ⊥)
+    (after.matchers ≡ before.matchers) × (is_called ≡ true → IsRegular false (λ i. mark_at known i ≡ true) body → ⊥)
 IsCalleeOf known is_called body group before after (Some callee) =
-    AddsMatchers before after (classes body) × IsRegular (λ i. mark_at known i ≡ true) body
+    AddsMatchers before after (classes body) × IsRegular false (λ i. mark_at known i ≡ true) body
     × ((groups : List Tree) → AreCallSizes groups before.sizes.items
     → shape callee.node ≡ re_of before.unicode groups (called_in before.called.items) (group + 1) (length before.matchers.items) body)
 
@@ -84,5 +84,5 @@ pub record MakesLevel (groups : List Tree) (marks : List Bool) (before after : T
 pub record WritesCalls (groups : List Tree) (root : Tree) (unicode : Bool) (translator : Translator) : Type 0 where
   pub all_classes : List (Text × Bool)
   pub matchers : HaveMatchers unicode translator.matchers.items all_classes
-  pub calls : IsWrittenOut groups root
-      → IsRegular (λ j. IsCalled groups unicode all_classes (greatest_nesting (length groups)) j (called_in translator.called.items j)) root
+  pub calls : (resets : Bool) → IsWrittenOut groups resets root
+      → IsRegular resets (λ j. IsCalled groups unicode all_classes (greatest_nesting (length groups)) j (called_in translator.called.items j)) root

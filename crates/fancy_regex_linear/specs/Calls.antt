@@ -1,6 +1,6 @@
 -- Calls of groups that are written out in place: which may be, what they weigh, and what they become.
-use Rattle.std.specs.Prelude.{◌≡◌, ◌<◌, ℕ, zero, suc, ◌+◌, ◌*◌, max, min, Bool, List, length, slice_get, Option, Some, None}
-use Rattle.fancy_regex_tree.specs.Tree.{Tree, Trees, Text, concat, alt, group, look_around, repeat, atomic_group, conditional, subroutine_call, no_trees, more_trees}
+use Rattle.std.specs.Prelude.{◌≡◌, ◌<◌, ℕ, zero, suc, ◌+◌, ◌*◌, max, min, Bool, false, not, ◌==◌, List, length, slice_get, Option, Some, None}
+use Rattle.fancy_regex_tree.specs.Tree.{Tree, Trees, Text, concat, alt, group, look_around, repeat, atomic_group, conditional, keep_out, subroutine_call, no_trees, more_trees}
 use Rattle.fancy_regex_tree.specs.Bounds.{depth as tree_depth}
 use Rattle.fancy_regex_meaning.specs.Groups.{Pattern}
 use Rattle.fancy_regex_info.specs.Views.{pattern_in}
@@ -11,6 +11,10 @@ use Rattle.fancy_regex_linear.specs.Re.{Re}
 -- the pattern is that of a tree, whose groups count from 1, or from 0
 abbrev pub IsOfTree : Pattern → Type 0
 IsOfTree pattern = (explicit : Bool) × (t : Tree) × (pattern ≡ pattern_in explicit t)
+
+-- the tree does not write group 0 itself: that holds where the match begins, and `\K` may reset it
+abbrev pub has_own_span : Pattern → Bool
+has_own_span pattern = not (pattern.first_group == 0)
 
 -- How deep calls may nest: 18 of them, or as many as there are groups where these are fewer. No call that does not recur nests deeper than
 -- there are groups.
@@ -28,19 +32,20 @@ AreAt cs k xs = (j : ℕ) → j < length xs → slice_get cs (k + j) ≡ slice_g
 
 -- over the bodies of all groups
 module _ (groups : List Tree) where
-  -- a call of this group can be written out, where calls nest at most so deep
+  -- a call of this group can be written out, where calls nest at most so deep; no `\K` is in it
   unfoldable pub IsCallable : ℕ → ℕ → Type 0
   IsCallable zero j = ⊥
-  IsCallable (suc depth) j = OfBody (IsRegular (IsCallable depth)) (target groups j)
+  IsCallable (suc depth) j = OfBody (IsRegular false (IsCallable depth)) (target groups j)
 
-  -- The tree with its calls written out is regular. A call that recurs has no such form.
-  abbrev pub IsWrittenOut : Tree → Type 0
-  IsWrittenOut = IsRegular (IsCallable (greatest_nesting (length groups)))
+  -- The tree with its calls written out is regular, where `\K` may reset the start of the match or not. A call that recurs has no such form.
+  abbrev pub IsWrittenOut : Bool → Tree → Type 0
+  IsWrittenOut resets = IsRegular resets (IsCallable (greatest_nesting (length groups)))
 
   -- The weight of a node, where that of calls is given. A definition weighs 1, whatever is in it.
   unfoldable mutual
     pub weight_with : (ℕ → ℕ) → Tree → ℕ
     weight_with call (subroutine_call j) = call j
+    weight_with call keep_out = 3
     weight_with call (concat ts) = max 1 (weights_with call ts)
     weight_with call (alt ts) = weights_with call ts + 3 * branch_gaps groups ts
     weight_with call (group t) = weight_with call t + 2
@@ -72,7 +77,7 @@ module _ (groups : List Tree) where
   -- among these. The pair of the group itself is not written.
   abbrev pub IsOfBody : Bool → List (Text × Bool) → (ℕ → Re → Type 0) → ℕ → Re → Tree → Type 0
   IsOfBody unicode cs inside j x body =
-      (called : ℕ → Re) × (base : ℕ) × IsRegular (λ i. inside i (called i)) body
+      (called : ℕ → Re) × (base : ℕ) × IsRegular false (λ i. inside i (called i)) body
       × (x ≡ re_of unicode groups called (j + 1) base body) × AreAt cs base (classes body)
 
   -- the pattern that a call of this group becomes, where calls nest at most so deep

@@ -1,6 +1,6 @@
 -- What one walk finds of an analyzed tree where calls are written out, by a table of what is known of calls.
 use Rattle.std.specs.Prelude.{ℕ, zero, suc, ◌+◌, ◌-◌, ◌*◌, min, max, Bool, true, false, ◌&&◌, ◌||◌, not, List, [], ◌∷◌, ◌++◌, slice_get, Option, Some, None, ◌==◌, if◌then◌else◌}
-use Rattle.fancy_regex_tree.specs.Tree.{Tree, Trees, empty, any, assertion, general_newline, literal, concat, alt, group, look_around, repeat, delegate, atomic_group, continue, conditional, subroutine_call, verb, define_group, no_trees, more_trees}
+use Rattle.fancy_regex_tree.specs.Tree.{Tree, Trees, empty, any, assertion, general_newline, literal, concat, alt, group, look_around, repeat, delegate, atomic_group, continue, conditional, subroutine_call, verb, keep_out, define_group, no_trees, more_trees}
 use Rattle.fancy_regex_tree.specs.declared.expr.BacktrackingControlVerb.{BacktrackingControlVerb}
 use Rattle.fancy_regex_tree.specs.declared.expr.BacktrackingControlVerb.TheVariants.{Fail}
 use Rattle.fancy_regex_meaning.specs.Sizes.{unbounded, add, branch_gaps}
@@ -30,11 +30,12 @@ nothing_known = record { is_callable = false; weight = 1 }
 
 -- of no trees, and of one more in a row
 abbrev pub no_parts : TreeFacts
-no_parts = record { is_regular = true; weight = 0; depth = 0; may_be_empty = true }
+no_parts = record { is_regular = true; keeps_start = true; weight = 0; depth = 0; may_be_empty = true }
 
 abbrev pub with_part : TreeFacts → TreeFacts → TreeFacts
 with_part parts part = record {
   is_regular = parts.is_regular && part.is_regular;
+  keeps_start = parts.keeps_start && part.keeps_start;
   weight = add parts.weight part.weight;
   depth = max parts.depth part.depth;
   may_be_empty = parts.may_be_empty && part.may_be_empty;
@@ -52,26 +53,28 @@ abbrev pub is_fail : BacktrackingControlVerb → Bool
 is_fail Fail = true
 is_fail v = false
 
--- by the trees directly below a node
-abbrev pub regular_by : List CallFacts → Tree → Bool → Bool
-regular_by calls empty parts = true
-regular_by calls (any newline crlf) parts = true
-regular_by calls (literal val casei) parts = true
-regular_by calls (delegate class casei) parts = true
-regular_by calls (general_newline wide) parts = true
-regular_by calls (assertion a) parts = true
-regular_by calls continue parts = true
-regular_by calls (define_group t) parts = true
-regular_by calls (verb v) parts = is_fail v
-regular_by calls (concat ts) parts = parts
-regular_by calls (group t) parts = parts
-regular_by calls (look_around t how) parts = parts
-regular_by calls (atomic_group t) parts = parts
-regular_by calls (conditional c a b) parts = parts
-regular_by calls (alt ts) parts = have_some ts && parts
-regular_by calls (repeat t lo hi greedy) parts = has_no_iteration lo hi || parts
-regular_by calls (subroutine_call j) parts = callable_in calls j
-regular_by calls _ parts = false
+-- Whether a node is regular, where `\K` may reset the start or not, by the trees directly below it: whether they are so, and whether they keep
+-- the start, as those of a look-around have to.
+abbrev pub regular_by : List CallFacts → Bool → Tree → Bool → Bool → Bool
+regular_by calls resets empty parts keep = true
+regular_by calls resets (any newline crlf) parts keep = true
+regular_by calls resets (literal val casei) parts keep = true
+regular_by calls resets (delegate class casei) parts keep = true
+regular_by calls resets (general_newline wide) parts keep = true
+regular_by calls resets (assertion a) parts keep = true
+regular_by calls resets continue parts keep = true
+regular_by calls resets (define_group t) parts keep = true
+regular_by calls resets (verb v) parts keep = is_fail v
+regular_by calls resets keep_out parts keep = resets
+regular_by calls resets (concat ts) parts keep = parts
+regular_by calls resets (group t) parts keep = parts
+regular_by calls resets (look_around t how) parts keep = keep
+regular_by calls resets (atomic_group t) parts keep = parts
+regular_by calls resets (conditional c a b) parts keep = parts
+regular_by calls resets (alt ts) parts keep = have_some ts && parts
+regular_by calls resets (repeat t lo hi greedy) parts keep = has_no_iteration lo hi || parts
+regular_by calls resets (subroutine_call j) parts keep = callable_in calls j
+regular_by calls resets _ parts keep = false
 
 abbrev pub weight_by : List CallFacts → Tree → TreeFacts → ℕ
 weight_by calls (concat ts) parts = max parts.weight 1
@@ -83,19 +86,21 @@ weight_by calls (look_around t how) parts = add parts.weight 1
 weight_by calls (atomic_group t) parts = add parts.weight 1
 weight_by calls (conditional c a b) parts = add parts.weight 1
 weight_by calls (subroutine_call j) parts = weight_in calls j
+weight_by calls keep_out parts = 3
 weight_by calls _ parts = 1
 
 abbrev pub facts_by : List CallFacts → Tree → Bool → TreeFacts → TreeFacts
 facts_by calls t may_be_empty parts = record {
-  is_regular = regular_by calls t parts.is_regular;
+  is_regular = regular_by calls true t parts.is_regular parts.keeps_start;
+  keeps_start = regular_by calls false t parts.keeps_start parts.keeps_start;
   weight = weight_by calls t parts;
   depth = add parts.depth 1;
   may_be_empty = may_be_empty;
 }
 
--- of the calls of a group with such a body, and where there is a group at all
+-- of the calls of a group with such a body, which has to keep the start, and where there is a group at all
 abbrev pub call_of : TreeFacts → CallFacts
-call_of body = record { is_callable = body.is_regular; weight = add body.weight (min unbounded (body.depth * 2)) }
+call_of body = record { is_callable = body.keeps_start; weight = add body.weight (min unbounded (body.depth * 2)) }
 
 abbrev pub own_call : Bool → TreeFacts → List CallFacts
 own_call opens body = if opens then call_of body ∷ [] else []

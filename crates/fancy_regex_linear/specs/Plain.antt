@@ -1,6 +1,6 @@
 -- Plain trees, and the patterns of two branches at most that they become.
 use Rattle.std.specs.Prelude.{◌≡◌, ◌≢◌, ℕ, ◌+◌, Bool, true, false, not, ◌&&◌, List, [], ◌∷◌, ◌++◌, map, length, Option, Some, None, slice_index, if◌then◌else◌, ◌==◌}
-use Rattle.fancy_regex_tree.specs.Tree.{Tree, Trees, Text, empty, any, assertion, general_newline, literal, concat, alt, group, look_around, repeat, delegate, atomic_group, conditional, verb, continue, define_group, subroutine_call, no_trees, more_trees}
+use Rattle.fancy_regex_tree.specs.Tree.{Tree, Trees, Text, empty, any, assertion, general_newline, literal, concat, alt, group, look_around, repeat, delegate, atomic_group, conditional, verb, keep_out, continue, define_group, subroutine_call, no_trees, more_trees}
 use Rattle.fancy_regex_tree.specs.declared.expr.Assertion.{Assertion}
 use Rattle.fancy_regex_tree.specs.declared.expr.Assertion.TheVariants as A
 use Rattle.fancy_regex_tree.specs.declared.expr.BacktrackingControlVerb.{BacktrackingControlVerb}
@@ -79,31 +79,32 @@ has_no_iteration lo hi = (lo == 0) && (hi == 0)
 
 -- Trees that become a pattern with parts, where it is known of which groups the calls do: plain ones, `\R`, `\Z`, `\G`, those that never
 -- match, definitions of groups, which match the empty string, and look-arounds, atomic groups and conditionals over any such trees. What is
--- repeated no times may be anything.
+-- repeated no times may be anything. `\K` is one where it may reset the start of the match: not in a look-around, which keeps the start.
 abbrev mutual
-  pub IsRegular : (ℕ → Type 0) → Tree → Type 0
-  IsRegular called empty = Unit {0}
-  IsRegular called (any newline crlf) = Unit {0}
-  IsRegular called (literal val casei) = Unit {0}
-  IsRegular called (delegate class casei) = Unit {0}
-  IsRegular called (general_newline wide) = Unit {0}
-  IsRegular called (assertion a) = Unit {0}
-  IsRegular called (concat ts) = AreRegular called ts
-  IsRegular called (alt ts) = (ts ≢ no_trees) × AreRegular called ts
-  IsRegular called (group t) = IsRegular called t
-  IsRegular called (look_around t how) = IsRegular called t
-  IsRegular called (atomic_group t) = IsRegular called t
-  IsRegular called (conditional c a b) = IsRegular called c × (IsRegular called a × IsRegular called b)
-  IsRegular called (define_group t) = Unit {0}
-  IsRegular called (verb v) = IsFail v
-  IsRegular called continue = Unit {0}
-  IsRegular called (subroutine_call j) = called j
-  IsRegular called (repeat t lo hi greedy) = has_no_iteration lo hi ≡ false → IsRegular called t
-  IsRegular called _ = ⊥
+  pub IsRegular : Bool → (ℕ → Type 0) → Tree → Type 0
+  IsRegular resets called empty = Unit {0}
+  IsRegular resets called (any newline crlf) = Unit {0}
+  IsRegular resets called (literal val casei) = Unit {0}
+  IsRegular resets called (delegate class casei) = Unit {0}
+  IsRegular resets called (general_newline wide) = Unit {0}
+  IsRegular resets called (assertion a) = Unit {0}
+  IsRegular resets called (concat ts) = AreRegular resets called ts
+  IsRegular resets called (alt ts) = (ts ≢ no_trees) × AreRegular resets called ts
+  IsRegular resets called (group t) = IsRegular resets called t
+  IsRegular resets called (look_around t how) = IsRegular false called t
+  IsRegular resets called (atomic_group t) = IsRegular resets called t
+  IsRegular resets called (conditional c a b) = IsRegular resets called c × (IsRegular resets called a × IsRegular resets called b)
+  IsRegular resets called (define_group t) = Unit {0}
+  IsRegular resets called (verb v) = IsFail v
+  IsRegular resets called keep_out = resets ≡ true
+  IsRegular resets called continue = Unit {0}
+  IsRegular resets called (subroutine_call j) = called j
+  IsRegular resets called (repeat t lo hi greedy) = has_no_iteration lo hi ≡ false → IsRegular resets called t
+  IsRegular resets called _ = ⊥
 
-  pub AreRegular : (ℕ → Type 0) → Trees → Type 0
-  AreRegular called no_trees = Unit {0}
-  AreRegular called (more_trees t ts) = IsRegular called t × AreRegular called ts
+  pub AreRegular : Bool → (ℕ → Type 0) → Trees → Type 0
+  AreRegular resets called no_trees = Unit {0}
+  AreRegular resets called (more_trees t ts) = IsRegular resets called t × AreRegular resets called ts
 
 abbrev pub unless : Bool → Re → Re
 unless true x = re.nothing
@@ -208,7 +209,8 @@ no_calls j = re.nothing
 
 -- over the bodies of all groups, where it is known what calls become
 module _ (unicode : Bool) (groups : List Tree) (called : ℕ → Re) where
-  -- the pattern of a tree, with the numbers of the group that opens first in it and of its first class
+  -- The pattern of a tree, with the numbers of the group that opens first in it and of its first class. `\K` writes group 0: its opening slot
+  -- is where the match will be said to begin.
   unfoldable mutual
     pub re_of : ℕ → ℕ → Tree → Re
     re_of n k empty = re.nothing
@@ -226,6 +228,7 @@ module _ (unicode : Bool) (groups : List Tree) (called : ℕ → Re) where
         re.conditional (re_of n k c) (re_of (n + group_count c) (k + length (classes c)) a)
         (re_of (n + group_count c + group_count a) (k + length (classes c) + length (classes a)) b)
     re_of n k (verb v) = re.test Never
+    re_of n k keep_out = re.group 0 re.nothing
     re_of n k continue = re.test Continue
     re_of n k (repeat t lo hi greedy) =
         unless (has_no_iteration lo hi) (re.repeat lo hi greedy (never_empty (re_of n k t)) (re_of n k t))

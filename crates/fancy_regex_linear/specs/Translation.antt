@@ -30,10 +30,10 @@ AddsMatchers before after = Extends before.unicode before.matchers.items after.m
 
 -- the tree is regular, whatever its calls are
 abbrev pub IsWritable : Tree → Type 0
-IsWritable = IsRegular (λ j. Unit {0})
+IsWritable = IsRegular true (λ j. Unit {0})
 
 abbrev pub AreWritable : Trees → Type 0
-AreWritable = AreRegular (λ j. Unit {0})
+AreWritable = AreRegular true (λ j. Unit {0})
 
 -- what a call becomes, if it is known
 abbrev pub callee_shape : Option Callee → Re

@@ -1,7 +1,7 @@
 //! Translation of an easy syntax tree to nodes and class matchers.
 
 ghost use Rattle.std.specs.Prelude.{◌≡◌, ◌+◌, ◌&&◌, ◌||◌, true, false, ◌++◌, ◌∷◌, [], ℕ, Bool, List, None, length, map, not, All, OnOk, IfOk, IfErr, IfSome, chars, string_bytes, slice_index, if◌then◌else◌};
-ghost use Rattle.fancy_regex_tree.specs.Tree.{Tree, tree_of, look_around, repeat};
+ghost use Rattle.fancy_regex_tree.specs.Tree.{Tree, tree_of, repeat};
 ghost use Rattle.fancy_regex_meaning.specs.Groups.{group_count, row_group_count};
 ghost use Rattle.fancy_regex_class.specs.Classes.{folded};
 ghost use Rattle.fancy_regex_linear.specs.Re.{shape, shapes, cats};
@@ -235,6 +235,16 @@ fn add_three(
     Ok(())
 }
 
+/// The node of `\K`: group 0 over the empty string, so that its opening slot holds where the match begins. The error is want of memory.
+fn start_mark(alloc: Global) -> Result<Node, AllocError>
+    ensures shape { IfOk result (λ node. shape node ≡ re.group 0 re.nothing) }
+    ensures still { IfOk result (λ node. never_empty (shape node) ≡ false) }
+    ensures sound { IfOk result (λ node. IsSound (shape node)) }
+{
+    let body = boxed(alloc, Node::Empty)?;
+    Ok(Node::Group { number: 0, body })
+}
+
 /// Two nodes, one after the other. The error is want of memory.
 fn row_of_two(alloc: Global, first: Node, second: Node) -> Result<Node, AllocError>
     ensures { IfOk result (λ node. shape node ≡ cats (shape first ∷ shape second ∷ [])) }
@@ -415,7 +425,7 @@ impl Translator {
         if !is_called {
             return Ok(None);
         }
-        if !is_regular(body, known) {
+        if !is_regular(body, false, known) {
             return Ok(None);
         }
         let made = self.callee(body, group)?;
@@ -513,6 +523,10 @@ impl Translator {
                 Ok(Translated::still(Node::Empty))
             }
             Expr::BacktrackingControlVerb(_) => Ok(Translated::still(Node::Look(Test::Never))),
+            Expr::KeepOut => {
+                let node = start_mark(self.alloc)?;
+                Ok(Translated::still(node))
+            }
             Expr::ContinueFromPreviousMatchEnd => {
                 Ok(Translated::still(Node::Look(Test::Continue)))
             }
@@ -529,14 +543,14 @@ impl Translator {
     fn look_around(&mut self, child: &Expr, look: LookAround) -> Result<Translated, CompileError>
         ensures unicode { self.new.unicode ≡ self.old.unicode }
         ensures tables { (self.new.sizes ≡ self.old.sizes) × (self.new.called ≡ self.old.called) }
-        ensures groups { IfOk result (λ _. IsWritable (look_around (tree_of child.now) look)
+        ensures groups { IfOk result (λ _. IsWritable (tree_of child.now)
             → self.new.next_group ≡ self.old.next_group + group_count (tree_of child.now)) }
         ensures matchers { IfOk result (λ _. AddsMatchers self.old self.new (classes (tree_of child.now))) }
         ensures moves { IfOk result (λ translated. translated.moves ≡ false) }
         ensures still { IfOk result (λ translated. never_empty (shape translated.node) ≡ false) }
         ensures sound { IfOk result (λ translated. IsSound (shape translated.node)) }
         ensures refused { IfErr result (IsClassCause self.old.unicode (classes (tree_of child.now))) }
-        ensures shape { IfOk result (λ translated. IsWritable (look_around (tree_of child.now) look) → (groups : List Tree)
+        ensures shape { IfOk result (λ translated. IsWritable (tree_of child.now) → (groups : List Tree)
             → AreCallSizes groups self.old.sizes.items → shape translated.node ≡ around self.old.unicode groups
             (called_in self.old.called.items) self.old.next_group (length self.old.matchers.items) look
             (re_of self.old.unicode groups (called_in self.old.called.items) self.old.next_group (length self.old.matchers.items)
@@ -967,34 +981,35 @@ fn are_supported(children: &[Expr]) -> bool
     true
 }
 
-/// Whether the tree becomes a pattern with parts, where the calls of the marked groups do.
+/// Whether the tree becomes a pattern with parts, where the calls of the marked groups do, and where `\K` may reset the start or not.
 #[cycle(regular)]
-pub fn is_regular(expr: &Expr, calls: &[bool]) -> bool
-    ensures regular { result ≡ true → IsRegular (λ j. mark_at calls.now j ≡ true) (tree_of expr.now) }
-    ensures other { result ≡ false → IsRegular (λ j. mark_at calls.now j ≡ true) (tree_of expr.now) → ⊥ }
+pub fn is_regular(expr: &Expr, resets: bool, calls: &[bool]) -> bool
+    ensures regular { result ≡ true → IsRegular resets (λ j. mark_at calls.now j ≡ true) (tree_of expr.now) }
+    ensures other { result ≡ false → IsRegular resets (λ j. mark_at calls.now j ≡ true) (tree_of expr.now) → ⊥ }
 {
     match expr {
         Expr::Empty | Expr::Any { .. } | Expr::Literal { .. } | Expr::Delegate { .. } => true,
         Expr::Assertion(_) | Expr::GeneralNewline { .. } | Expr::ContinueFromPreviousMatchEnd =>
             true,
-        Expr::Concat(children) => are_regular(children, calls),
-        Expr::Alt(children) => !children.is_empty() && are_regular(children, calls),
+        Expr::Concat(children) => are_regular(children, resets, calls),
+        Expr::Alt(children) => !children.is_empty() && are_regular(children, resets, calls),
         Expr::BacktrackingControlVerb(BacktrackingControlVerb::Fail) => true,
-        Expr::Group(child) | Expr::AtomicGroup(child) => is_regular(child, calls),
+        Expr::KeepOut => resets,
+        Expr::Group(child) | Expr::AtomicGroup(child) => is_regular(child, resets, calls),
         Expr::Conditional {
             condition,
             true_branch,
             false_branch,
         } => {
-            let first = is_regular(condition, calls);
-            let yes = is_regular(true_branch, calls);
-            let no = is_regular(false_branch, calls);
+            let first = is_regular(condition, resets, calls);
+            let yes = is_regular(true_branch, resets, calls);
+            let no = is_regular(false_branch, resets, calls);
             are_all(first, yes, no)
         }
         Expr::DefineGroup { .. } => true,
         Expr::Repeat { child, lo, hi, .. } => is_never_repeated(*lo, *hi)
-            || is_regular(child, calls),
-        Expr::LookAround(child, _) => is_regular(child, calls),
+            || is_regular(child, resets, calls),
+        Expr::LookAround(child, _) => is_regular(child, false, calls),
         Expr::SubroutineCall(group) => is_set(calls, *group),
         _ => false,
     }
@@ -1009,12 +1024,12 @@ fn are_all(first: bool, second: bool, third: bool) -> bool
 
 /// Whether all these trees become patterns with parts.
 #[cycle(regular)]
-fn are_regular(children: &[Expr], calls: &[bool]) -> bool
-    ensures regular { result ≡ true → AreRegular (λ j. mark_at calls.now j ≡ true) (all_trees children.now) }
-    ensures other { result ≡ false → AreRegular (λ j. mark_at calls.now j ≡ true) (all_trees children.now) → ⊥ }
+fn are_regular(children: &[Expr], resets: bool, calls: &[bool]) -> bool
+    ensures regular { result ≡ true → AreRegular resets (λ j. mark_at calls.now j ≡ true) (all_trees children.now) }
+    ensures other { result ≡ false → AreRegular resets (λ j. mark_at calls.now j ≡ true) (all_trees children.now) → ⊥ }
 {
     for i in 0..children.len() {
-        if !is_regular(&children[i], calls) {
+        if !is_regular(&children[i], resets, calls) {
             return false;
         }
     }

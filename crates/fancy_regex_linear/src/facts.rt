@@ -27,8 +27,10 @@ pub struct CallFacts {
 /// What is known of a tree, or of trees in a row.
 #[derive(Clone, Copy)]
 pub struct TreeFacts {
-    /// Whether each is regular, with its calls written out.
+    /// Whether each is regular, with its calls written out. `\K` may be in it, but not in a look-around.
     pub is_regular: bool,
+    /// Whether each is regular and without `\K`, so that a match of it begins where its attempt does.
+    pub keeps_start: bool,
     /// How much they weigh together, each call counted as is known of its group; it stops at the greatest number of 64 bits.
     pub weight: u64,
     /// The number of nodes on their longest path from a root.
@@ -43,6 +45,7 @@ fn no_parts() -> TreeFacts
 {
     TreeFacts {
         is_regular: true,
+        keeps_start: true,
         weight: 0,
         depth: 0,
         may_be_empty: true,
@@ -55,6 +58,7 @@ fn with_part(parts: TreeFacts, part: TreeFacts) -> TreeFacts
 {
     TreeFacts {
         is_regular: parts.is_regular && part.is_regular,
+        keeps_start: parts.keeps_start && part.keeps_start,
         weight: parts.weight.saturating_add(part.weight),
         depth: parts.depth.max(part.depth),
         may_be_empty: parts.may_be_empty && part.may_be_empty,
@@ -81,16 +85,25 @@ fn weight_at(calls: &[CallFacts], group: usize) -> u64
     }
 }
 
-/// Whether the node is regular, where its children are or are not.
-fn is_regular_by(expr: &Expr, parts: bool, calls: &[CallFacts]) -> bool
-    ensures { result ≡ regular_by calls.now (tree_of expr.now) parts }
+/// Whether the node is regular, where `\K` may reset the start or not, and where its children are so or not; those of a look-around have
+/// to keep the start.
+fn is_regular_by(
+    expr: &Expr,
+    resets: bool,
+    parts: bool,
+    keep_start: bool,
+    calls: &[CallFacts],
+) -> bool
+    ensures { result ≡ regular_by calls.now resets (tree_of expr.now) parts keep_start }
 {
     match expr {
         Expr::Empty | Expr::Any { .. } | Expr::Literal { .. } | Expr::Delegate { .. } => true,
         Expr::Assertion(_) | Expr::GeneralNewline { .. } | Expr::ContinueFromPreviousMatchEnd =>
             true,
-        Expr::Concat(_) | Expr::Group(_) | Expr::LookAround(_, _) | Expr::AtomicGroup(_) => parts,
+        Expr::Concat(_) | Expr::Group(_) | Expr::AtomicGroup(_) => parts,
         Expr::Conditional { .. } => parts,
+        Expr::LookAround(_, _) => keep_start,
+        Expr::KeepOut => resets,
         Expr::Alt(children) => !children.is_empty() && parts,
         Expr::Repeat { lo, hi, .. } => is_never_repeated(*lo, *hi) || parts,
         Expr::DefineGroup { .. } => true,
@@ -115,6 +128,7 @@ fn weight_of_node(expr: &Expr, parts: TreeFacts, calls: &[CallFacts]) -> u64
             parts.weight.saturating_add(1)
         }
         Expr::SubroutineCall(group) => weight_at(calls, *group),
+        Expr::KeepOut => 3,
         _ => 1,
     }
 }
@@ -160,7 +174,8 @@ fn facts_of_node(
     ensures { result ≡ facts_by calls.now (tree_of expr.now) may_be_empty parts }
 {
     TreeFacts {
-        is_regular: is_regular_by(expr, parts.is_regular, calls),
+        is_regular: is_regular_by(expr, true, parts.is_regular, parts.keeps_start, calls),
+        keeps_start: is_regular_by(expr, false, parts.keeps_start, parts.keeps_start, calls),
         weight: weight_of_node(expr, parts, calls),
         depth: parts.depth.saturating_add(1),
         may_be_empty,
@@ -189,7 +204,8 @@ fn facts_of_row(children: &[Info<'_>], calls: &[CallFacts]) -> TreeFacts
     parts
 }
 
-/// What is known of the calls of a group with this body: each weighs as much as the body, and twice its depth.
+/// What is known of the calls of a group with this body: each weighs as much as the body, and twice its depth. They can be written out
+/// where the body keeps the start.
 ///
 /// A call nests the nodes of the body in those around it. Since the depth counts, what is written out is no deeper than the tree that is
 /// read and half of what it weighs, however light the bodies are: functions that recur over its nodes need no more of the stack.
@@ -197,7 +213,7 @@ fn call_of_body(body: TreeFacts) -> CallFacts
     ensures { result ≡ call_of body }
 {
     CallFacts {
-        is_callable: body.is_regular,
+        is_callable: body.keeps_start,
         weight: body.weight.saturating_add(body.depth.saturating_mul(2)),
     }
 }

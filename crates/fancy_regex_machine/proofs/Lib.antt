@@ -6,6 +6,7 @@ pub mod LimitLemmas
 mod AlternativeLoopLemmas
 mod ChoiceLemmas
 mod CountedLoopLemmas
+mod RoundLemmas
 mod SpanThreads
 mod SpanMoves
 mod SpanRuns

@@ -2,6 +2,7 @@ pub mod Allowances
 pub mod Steps
 pub mod Advances
 pub mod Endings
+pub mod Rounds
 pub mod RunArguments
 pub mod MachineLimits
 pub mod SearchAnswers

@@ -15,6 +15,7 @@ mod counted_loops;
 mod error;
 mod failing_places;
 mod memory;
+mod rounds;
 mod run_loop;
 mod search;
 mod step;

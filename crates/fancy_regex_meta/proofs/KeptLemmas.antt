@@ -13,4 +13,4 @@ pub keeps_nothing : (strategy : Strategy) (text : List ℕ) (parts : RegularMemo
 keeps_nothing (Easy easy) text parts none = tt
 keeps_nothing (Linear linear prog) text parts none = tt
 keeps_nothing (Program prog run) text parts none = tt
-keeps_nothing (Regular regular prog run) text parts none = subst (λ (o : Option Kept). IfSome o (IsTrueFor regular text parts.parts)) (sym none) tt
+keeps_nothing (Regular regular prog run relaxed) text parts none = subst (λ (o : Option Kept). IfSome o (IsTrueFor regular text parts.parts)) (sym none) tt

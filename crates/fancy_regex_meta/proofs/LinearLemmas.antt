@@ -4,7 +4,7 @@ use mathlib.Core.Logic.{∥∥₁_elim}
 use Rattle.std.proofs.Common.{◌≡◌, ◌⊎◌, ◌↔◌, ◌∙◌, ⊎_elim, inl, inr, Bool, true, false, true≢false, List, ℕ, zero, suc, length, Option, Some, None, refl, sym, ap, subst}
 use Rattle.std.proofs.Math.Bool.{Bool-set}
 use Rattle.std.proofs.Math.Bridge.{le_prop}
-use Rattle.fancy_regex_tree.specs.Tree.{Tree, Trees, tree_of, empty, any, assertion, general_newline, literal, concat, alt, group, look_around, repeat, delegate, atomic_group, conditional, verb, continue, define_group, subroutine_call, no_trees, more_trees}
+use Rattle.fancy_regex_tree.specs.Tree.{Tree, Trees, tree_of, empty, any, assertion, general_newline, literal, concat, alt, group, look_around, repeat, delegate, atomic_group, conditional, verb, keep_out, continue, define_group, subroutine_call, no_trees, more_trees}
 use Rattle.fancy_regex_tree.specs.declared.expr.BacktrackingControlVerb.{BacktrackingControlVerb}
 use Rattle.fancy_regex_tree.specs.declared.expr.BacktrackingControlVerb.TheVariants.{Fail}
 use Rattle.fancy_regex_tree.specs.declared.expr_tree.ExprTree.{ExprTree}
@@ -34,29 +34,30 @@ fail_prop _ = ⊥_prop
 
 module _ (called : ℕ → Type 0) (props : (j : ℕ) → IsProp (called j)) where
   mutual
-    regular_prop : (t : Tree) → IsProp (IsRegular called t)
-    regular_prop empty = Unit-prop
-    regular_prop (any newline crlf) = Unit-prop
-    regular_prop (literal val casei) = Unit-prop
-    regular_prop (delegate class casei) = Unit-prop
-    regular_prop (general_newline wide) = Unit-prop
-    regular_prop (assertion a) = Unit-prop
-    regular_prop (concat ts) = all_prop ts
-    regular_prop (alt ts) = ×_prop (Π_prop λ e. ⊥_prop) (all_prop ts)
-    regular_prop (group t) = regular_prop t
-    regular_prop (look_around t how) = regular_prop t
-    regular_prop (atomic_group t) = regular_prop t
-    regular_prop (conditional c a b) = ×_prop (regular_prop c) (×_prop (regular_prop a) (regular_prop b))
-    regular_prop (define_group t) = Unit-prop
-    regular_prop (verb v) = fail_prop v
-    regular_prop continue = Unit-prop
-    regular_prop (subroutine_call j) = props j
-    regular_prop (repeat t lo hi greedy) = Π_prop λ made. regular_prop t
-    regular_prop _ = ⊥_prop
+    regular_prop : (resets : Bool) (t : Tree) → IsProp (IsRegular resets called t)
+    regular_prop resets empty = Unit-prop
+    regular_prop resets (any newline crlf) = Unit-prop
+    regular_prop resets (literal val casei) = Unit-prop
+    regular_prop resets (delegate class casei) = Unit-prop
+    regular_prop resets (general_newline wide) = Unit-prop
+    regular_prop resets (assertion a) = Unit-prop
+    regular_prop resets (concat ts) = all_prop resets ts
+    regular_prop resets (alt ts) = ×_prop (Π_prop λ e. ⊥_prop) (all_prop resets ts)
+    regular_prop resets (group t) = regular_prop resets t
+    regular_prop resets (look_around t how) = regular_prop false t
+    regular_prop resets (atomic_group t) = regular_prop resets t
+    regular_prop resets (conditional c a b) = ×_prop (regular_prop resets c) (×_prop (regular_prop resets a) (regular_prop resets b))
+    regular_prop resets (define_group t) = Unit-prop
+    regular_prop resets (verb v) = fail_prop v
+    regular_prop resets keep_out = Bool-set resets true
+    regular_prop resets continue = Unit-prop
+    regular_prop resets (subroutine_call j) = props j
+    regular_prop resets (repeat t lo hi greedy) = Π_prop λ made. regular_prop resets t
+    regular_prop resets _ = ⊥_prop
 
-    all_prop : (ts : Trees) → IsProp (AreRegular called ts)
-    all_prop no_trees = Unit-prop
-    all_prop (more_trees t ts) = ×_prop (regular_prop t) (all_prop ts)
+    all_prop : (resets : Bool) (ts : Trees) → IsProp (AreRegular resets called ts)
+    all_prop resets no_trees = Unit-prop
+    all_prop resets (more_trees t ts) = ×_prop (regular_prop resets t) (all_prop resets ts)
 
 body_prop : (P : Tree → Type 0) → ((t : Tree) → IsProp (P t)) → (o : Option Tree) → IsProp (OfBody P o)
 body_prop P props None = ⊥_prop
@@ -66,9 +67,9 @@ callable_prop : (groups : List Tree) (depth j : ℕ) → IsProp (IsCallable grou
 unfolding IsCallable
 callable_prop groups zero j = ⊥_prop
 callable_prop groups (suc depth) j =
-    body_prop (IsRegular (IsCallable groups depth)) (regular_prop (IsCallable groups depth) (callable_prop groups depth)) (target groups j)
+    body_prop (IsRegular false (IsCallable groups depth)) (regular_prop (IsCallable groups depth) (callable_prop groups depth) false) (target groups j)
 
-written_prop : (groups : List Tree) (t : Tree) → IsProp (IsWrittenOut groups t)
+written_prop : (groups : List Tree) (resets : Bool) (t : Tree) → IsProp (IsWrittenOut groups resets t)
 written_prop groups = regular_prop (IsCallable groups (greatest_nesting (length groups))) (callable_prop groups (greatest_nesting (length groups)))
 
 supported_prop : (pattern : Pattern) → IsProp (IsSupported pattern)
@@ -112,7 +113,7 @@ module _ (served : Bool) (limit choices : ℕ) (o : RegexOptions) (text : List �
   linear_error strategy linear told.Memory above passed = refl
   linear_error (Easy easy) linear (told.RuntimeError error) above passed = absurd passed
   linear_error (Linear matcher prog) linear (told.RuntimeError error) above passed = absurd passed
-  linear_error (Regular regular prog run) linear (told.RuntimeError error) above passed = absurd passed
+  linear_error (Regular regular prog run relaxed) linear (told.RuntimeError error) above passed = absurd passed
   linear_error (Program prog run) linear e above passed = absurd (true≢false (sym linear))
   linear_error strategy linear (told.ParseError position kind) above passed = absurd above
   linear_error strategy linear (told.CompileError cause) above passed = absurd above

@@ -110,7 +110,7 @@ IsSearchError-prop served limit choices _ = hlevel (le_prop, Bool-set)
 pub IsStrategyError-prop : (strategy : Strategy) (o : RegexOptions) (text : List ℕ) (input : RunInput) (e : Error) → IsProp (IsStrategyError strategy o text input e)
 IsStrategyError-prop (Easy easy) o text input (told.RuntimeError error) = hlevel le_prop
 IsStrategyError-prop (Linear linear prog) o text input (told.RuntimeError error) = hlevel le_prop
-IsStrategyError-prop (Regular regular prog run) o text input (told.RuntimeError error) = hlevel le_prop
+IsStrategyError-prop (Regular regular prog run relaxed) o text input (told.RuntimeError error) = hlevel le_prop
 IsStrategyError-prop (Program prog run) o text input (told.RuntimeError error) = MachinePassesLimit-prop prog text input (run_options_of o run.seek) error
 IsStrategyError-prop strategy o text input _ = hlevel le_prop
 
@@ -119,18 +119,18 @@ pub StrategyStaysInLimits-prop : (strategy : Strategy) (o : RegexOptions) (text 
 StrategyStaysInLimits-prop (Easy easy) o text input = hlevel le_prop
 StrategyStaysInLimits-prop (Linear linear prog) o text input = hlevel le_prop
 StrategyStaysInLimits-prop (Program prog run) o text input = hlevel le_prop
-StrategyStaysInLimits-prop (Regular regular prog run) o text input = hlevel le_prop
+StrategyStaysInLimits-prop (Regular regular prog run relaxed) o text input = hlevel le_prop
 
 -- what executes a tree runs under its options
 pub executes-under : (strategy : Strategy) (o : RegexOptions) (t : Tree) → Executes strategy o t → RunsUnder strategy o
 executes-under (Easy easy) o t does = tt
 executes-under (Linear linear prog) o t does = tt
 executes-under (Program prog run) o t does = does.5
-executes-under (Regular regular prog run) o t does = tt
+executes-under (Regular regular prog run relaxed) o t does = tt
 
 -- of what executes a tree, group 0 is the whole match
 pub executes-whole : (strategy : Strategy) (o : RegexOptions) (t : Tree) → Executes strategy o t → is_whole strategy ≡ true
 executes-whole (Easy easy) o t does = refl
 executes-whole (Linear linear prog) o t does = refl
 executes-whole (Program prog run) o t does = does.0.whole
-executes-whole (Regular regular prog run) o t does = does.1.0.whole
+executes-whole (Regular regular prog run relaxed) o t does = does.1.0.whole

@@ -1,9 +1,14 @@
 -- The strategy of a tree that is not easy: its matcher, or else its program, with its states with parts if it has them.
-use Rattle.std.proofs.Common.{◌≡◌, ◌∙◌, ◌↔◌, Bool, true, false, List, Option, Some, None, Result, Ok, Err, refl, sym, ap, subst}
+use Rattle.std.proofs.Common.{◌≡◌, ◌∙◌, ◌↔◌, ℕ, Bool, true, false, List, Option, Some, None, Result, Ok, Err, refl, sym, ap, subst}
 use Rattle.std.specs.Prelude.{IfOk, IfSome, IsSome}
 use Rattle.std.proofs.lemmas.Bool.{and_parts}
 use Rattle.fancy_regex_tree.specs.Tree.{Tree}
 use Rattle.fancy_regex_meaning.specs.Groups.{pattern_of}
+use Rattle.fancy_regex_meaning.specs.Searches.{Search, first_match}
+use Rattle.fancy_regex_class.specs.RunInputs.{setting_for, search_for}
+use Rattle.fancy_regex_class.specs.declared.input.RunInput.{RunInput}
+use Rattle.fancy_regex_relaxed.specs.Skips.{IsRelaxedOf, IsSkip, input_from}
+use Rattle.fancy_regex_relaxed.specs.declared.relaxed.Relaxed.{Relaxed}
 use Rattle.fancy_regex_info.specs.Analysis.{analysis}
 use Rattle.fancy_regex_info.specs.Infos.{info_of}
 use Rattle.fancy_regex_info.specs.declared.info.Info.{Info}
@@ -19,7 +24,7 @@ use Rattle.fancy_regex_machine.specs.declared.search.RunOptions.{RunOptions}
 use Rattle.fancy_regex_meta.specs.EasyPatterns.{is_easy_tree, uses_easy}
 use Rattle.fancy_regex_meta.specs.LinearPatterns.{HasStates}
 use Rattle.fancy_regex_meta.specs.SeekTables.{IsSeekTable}
-use Rattle.fancy_regex_meta.specs.Strategies.{IsMatcherFor, IsRegularFor, IsProgramFor, unlimited, unlimited_run}
+use Rattle.fancy_regex_meta.specs.Strategies.{IsMatcherFor, IsRegularFor, IsProgramFor, IsRelaxedFor, IsNextStart, unlimited, unlimited_run, search_of}
 use Rattle.fancy_regex_meta.specs.declared.options.RegexOptions.{RegexOptions}
 
 -- the backtrack limit changes no seek table
@@ -83,3 +88,27 @@ easy_used o t empty easy = rw (empty, easy) refl
 
 pub used_easy : (o : RegexOptions) (t : Tree) → uses_easy o t ≡ true → is_easy_tree t ≡ true
 used_easy o t used = (and_parts _ _ used).1
+
+-- a search under options that allow empty matches
+search_is : (o : RegexOptions) (input : RunInput) → o.find_not_empty ≡ false → search_of o input ≡ search_for o.leftmost_longest input
+search_is o input e = ap (λ b. let r : Search = record { first = input.first; stop = input.range.end; anchored = input.anchored; options = record { find_not_empty = b; longest = o.leftmost_longest } } in r) e
+
+-- the same search is one from its own start
+pub next_is_first : (o : RegexOptions) (text : List ℕ) (input : RunInput) (t : Tree) → IsNextStart o text input t (Some input.first)
+next_is_first o text input t = refl
+
+-- what is said of the relaxed pattern's first start
+pub next_is_skip : (o : RegexOptions) (text : List ℕ) (input : RunInput) (t : Tree) (found : Option ℕ) → o.find_not_empty ≡ false
+    → IsSkip o.unicode_mode o.leftmost_longest text input t found → IsNextStart o text input t found
+next_is_skip o text input t None e skip = ap (λ find. first_match (setting_for o.unicode_mode text input) (pattern_of t) find) (search_is o input e) ∙ skip
+next_is_skip o text input t (Some start) e skip =
+    ap (λ find. first_match (setting_for o.unicode_mode text input) (pattern_of t) find) (search_is o input e)
+    ∙ skip.3
+    ∙ sym (ap (λ find. first_match (setting_for o.unicode_mode text (input_from input start)) (pattern_of t) find) (search_is o (input_from input start) e))
+
+-- a relaxed pattern of the analyzed tree, made under these options
+pub relaxed_is : (o : RegexOptions) (unicode : Bool) (u t : Tree) (found : Option Relaxed) → unicode ≡ o.unicode_mode → u ≡ t
+    → IfSome found (λ relaxed. IsRelaxedOf relaxed unicode u) → IsRelaxedFor found o t
+relaxed_is o unicode u t None mode same made = tt
+relaxed_is o unicode u t (Some relaxed) mode same made =
+    subst (IsRelaxedOf relaxed o.unicode_mode) same (subst (λ b. IsRelaxedOf relaxed b u) mode made)

@@ -26,4 +26,4 @@ abbrev pub is_easy_strategy : Strategy → Bool
 is_easy_strategy (Easy easy) = true
 is_easy_strategy (Linear linear prog) = false
 is_easy_strategy (Program prog run) = false
-is_easy_strategy (Regular regular prog run) = false
+is_easy_strategy (Regular regular prog run relaxed) = false

@@ -12,7 +12,7 @@ abbrev pub StrategyKeeps : Strategy → List ℕ → RegularMemory → Type 0
 StrategyKeeps (Easy easy) text parts = Unit {0}
 StrategyKeeps (Linear linear prog) text parts = Unit {0}
 StrategyKeeps (Program prog run) text parts = Unit {0}
-StrategyKeeps (Regular regular prog run) text parts = IsKeptOf regular text parts
+StrategyKeeps (Regular regular prog run relaxed) text parts = IsKeptOf regular text parts
 
 -- what the memory keeps, if it keeps anything, is true of this pattern and this text
 abbrev pub MetaKeeps : MetaRegex → List ℕ → MetaMemory → Type 0

@@ -13,7 +13,7 @@ strategy_prop : (strategy : Strategy) (text : List ℕ) (parts : RegularMemory) 
 strategy_prop (Easy easy) text parts = Unit-prop
 strategy_prop (Linear linear prog) text parts = Unit-prop
 strategy_prop (Program prog run) text parts = Unit-prop
-strategy_prop (Regular regular prog run) text parts = kept_prop regular text parts
+strategy_prop (Regular regular prog run relaxed) text parts = kept_prop regular text parts
 
 pub keeps_prop : (s : MetaRegex) (text : List ℕ) (memory : MetaMemory) → IsProp (MetaKeeps s text memory)
 keeps_prop s text memory = strategy_prop s.strategy text memory.parts

@@ -26,4 +26,4 @@ abbrev pub is_linear_strategy : Strategy → Bool
 is_linear_strategy (Easy easy) = true
 is_linear_strategy (Linear linear prog) = true
 is_linear_strategy (Program prog run) = false
-is_linear_strategy (Regular regular prog run) = true
+is_linear_strategy (Regular regular prog run relaxed) = true

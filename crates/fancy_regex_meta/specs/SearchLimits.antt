@@ -49,7 +49,7 @@ abbrev pub StrategyPassesLimit : Strategy → RegexOptions → List ℕ → RunI
 StrategyPassesLimit (Easy easy) o text input error = ⊥
 StrategyPassesLimit (Linear linear prog) o text input error = ⊥
 StrategyPassesLimit (Program prog run) o text input error = MachinePassesLimit prog text input (run_options_of o run.seek) error
-StrategyPassesLimit (Regular regular prog run) o text input error = ⊥
+StrategyPassesLimit (Regular regular prog run relaxed) o text input error = ⊥
 
 -- an error of a search that reports a limit only where it is the first that the kept program passes
 abbrev pub IsStrategyError : Strategy → RegexOptions → List ℕ → RunInput → Error → Type 0
@@ -68,7 +68,7 @@ abbrev pub StrategyStaysInLimits : Strategy → RegexOptions → List ℕ → Ru
 StrategyStaysInLimits (Easy easy) o text input = Unit {0}
 StrategyStaysInLimits (Linear linear prog) o text input = Unit {0}
 StrategyStaysInLimits (Program prog run) o text input = MachineStaysInLimits prog text input (run_options_of o run.seek)
-StrategyStaysInLimits (Regular regular prog run) o text input = Unit {0}
+StrategyStaysInLimits (Regular regular prog run relaxed) o text input = Unit {0}
 
 -- the weight of a tree: the looks per position that the linear-time matcher needs at most
 abbrev pub weight_of : Tree → ℕ

@@ -1,8 +1,8 @@
 -- When a strategy executes a tree under options, and which search it makes.
-use Rattle.std.specs.Prelude.{◌≡◌, ℕ, Bool, true, false, List, length, Option}
+use Rattle.std.specs.Prelude.{◌≡◌, ℕ, Bool, true, false, List, length, Option, Some, None, IfSome}
 use Rattle.fancy_regex_tree.specs.Tree.{Tree}
 use Rattle.fancy_regex_meaning.specs.Groups.{pattern_of}
-use Rattle.fancy_regex_meaning.specs.Searches.{Search}
+use Rattle.fancy_regex_meaning.specs.Searches.{Search, first_match}
 use Rattle.fancy_regex_meaning.specs.SizeLaws.{IsInOrder}
 use Rattle.fancy_regex_desugar.specs.Unfolded.{core_pattern_of}
 use Rattle.fancy_regex_desugar.specs.Shapes.{StepsBackOnlyFirst}
@@ -13,7 +13,10 @@ use Rattle.fancy_regex_linear.specs.EasyPatterns.{IsEasyOf}
 use Rattle.fancy_regex_linear.specs.declared.easy.Easy.{Easy as EasyMatcher}
 use Rattle.fancy_regex_regular.specs.Regulars.{IsRegularOf}
 use Rattle.fancy_regex_regular.specs.declared.regular.Regular.{Regular as RegularStates}
+use Rattle.fancy_regex_class.specs.RunInputs.{setting_for}
 use Rattle.fancy_regex_class.specs.declared.input.RunInput.{RunInput}
+use Rattle.fancy_regex_relaxed.specs.Skips.{IsRelaxedOf, input_from}
+use Rattle.fancy_regex_relaxed.specs.declared.relaxed.Relaxed.{Relaxed}
 use Rattle.fancy_regex_machine.specs.declared.search.RunOptions.{RunOptions}
 use Rattle.fancy_regex_meta.specs.Patterns.{options_in}
 use Rattle.fancy_regex_meta.specs.SeekTables.{IsSeekTable}
@@ -37,7 +40,7 @@ abbrev pub RunsUnder : Strategy → RegexOptions → Type 0
 RunsUnder (Easy easy) o = Unit {0}
 RunsUnder (Linear linear prog) o = Unit {0}
 RunsUnder (Program prog run) o = run ≡ run_options_of o run.seek
-RunsUnder (Regular regular prog run) o = Unit {0}
+RunsUnder (Regular regular prog run relaxed) o = Unit {0}
 
 -- The matcher searches as this tree means under these options, which allow empty matches.
 abbrev pub IsMatcherFor : EasyMatcher → RegexOptions → Tree → Type 0
@@ -69,6 +72,10 @@ unlimited o = record o { backtrack_limit = greatest_limit }
 abbrev pub unlimited_run : RunOptions → RunOptions
 unlimited_run run = record run { backtrack_limit = greatest_limit }
 
+-- A relaxed pattern, if there is one, is that of this tree under these options.
+abbrev pub IsRelaxedFor : Option Relaxed → RegexOptions → Tree → Type 0
+IsRelaxedFor found o t = IfSome found (λ relaxed. IsRelaxedOf relaxed o.unicode_mode t)
+
 -- The strategy executes this tree under these options: the linear-time matcher of the tree, where empty matches are allowed,
 -- or its program with its seek table, where no repeat is reversed; both with the options' Unicode mode and leftmost-longest
 -- mode. The program is run with the options' backtrack limit, or with the greatest one where states answer in its place once its allowance
@@ -77,22 +84,29 @@ abbrev pub Executes : Strategy → RegexOptions → Tree → Type 0
 Executes (Easy easy) o t = IsMatcherFor easy o t
 Executes (Linear linear prog) o t = IsMatcherFor linear o t × IsCompiled prog t
 Executes (Program prog run) o t = IsProgramFor prog run o t
-Executes (Regular regular prog run) o t = IsRegularFor regular o t × IsProgramFor prog run (unlimited o) t
+Executes (Regular regular prog run relaxed) o t = IsRegularFor regular o t × IsProgramFor prog run (unlimited o) t × IsRelaxedFor relaxed o t
 
 -- A program has no more instructions than the cap, if one is set. The linear-time matcher has no cap.
 abbrev pub StrategyKeepsCap : Option ℕ → Strategy → Type 0
 StrategyKeepsCap most (Easy easy) = Unit {0}
 StrategyKeepsCap most (Linear linear prog) = KeepsCap most prog
 StrategyKeepsCap most (Program prog run) = KeepsCap most prog
-StrategyKeepsCap most (Regular regular prog run) = KeepsCap most prog
+StrategyKeepsCap most (Regular regular prog run relaxed) = KeepsCap most prog
 
 -- group 0 of a program is the whole match
 abbrev pub is_whole : Strategy → Bool
 is_whole (Easy easy) = true
 is_whole (Linear linear prog) = true
 is_whole (Program prog run) = prog.whole
-is_whole (Regular regular prog run) = prog.whole
+is_whole (Regular regular prog run relaxed) = prog.whole
 
 -- the search of the definitions for a strategy's input
 abbrev pub search_of : RegexOptions → RunInput → Search
 search_of o input = record { first = input.first; stop = input.range.end; anchored = input.anchored; options = options_in o }
+
+-- There is no match; or the match of this search is that of the same search from this start.
+abbrev pub IsNextStart : RegexOptions → List ℕ → RunInput → Tree → Option ℕ → Type 0
+IsNextStart o text input t None = first_match (setting_for o.unicode_mode text input) (pattern_of t) (search_of o input) ≡ None
+IsNextStart o text input t (Some start) =
+    first_match (setting_for o.unicode_mode text input) (pattern_of t) (search_of o input)
+    ≡ first_match (setting_for o.unicode_mode text (input_from input start)) (pattern_of t) (search_of o (input_from input start))

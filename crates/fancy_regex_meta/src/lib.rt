@@ -12,6 +12,7 @@ mod parse;
 mod parse_options;
 mod run_work;
 mod seek;
+mod start_skips;
 mod strategy;
 
 pub use error::{Error, Result};

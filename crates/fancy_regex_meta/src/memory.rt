@@ -3,6 +3,7 @@
 ghost use Rattle.std.specs.Prelude.{◌≡◌, None};
 
 use crate::run_work::RunWork;
+use crate::start_skips::StartSkips;
 use fancy_regex_linear::SearchMemory;
 use fancy_regex_machine::RunMemory;
 use fancy_regex_regular::RegularMemory;
@@ -29,6 +30,8 @@ pub struct MetaMemory {
     pub parts: RegularMemory,
     /// The work that runs of the programs of such patterns may do.
     pub(crate) work: RunWork,
+    /// Whether it pays to skip starts of such patterns.
+    pub(crate) skips: StartSkips,
 }
 
 // Written, not derived: so a crate in which such a value may be dropped uses this proof, and has none to make of each type inside.
@@ -39,6 +42,7 @@ impl Drop for MetaMemory {
             program: _program,
             parts: _parts,
             work: _work,
+            skips: _skips,
         } = self;
     }
 }
@@ -53,6 +57,7 @@ impl MetaMemory {
             program: RunMemory::new(alloc),
             parts: RegularMemory::new(alloc),
             work: RunWork::new(),
+            skips: StartSkips::new(),
         }
     }
 
@@ -62,5 +67,6 @@ impl MetaMemory {
     {
         self.parts.forget();
         self.work = RunWork::new();
+        self.skips = StartSkips::new();
     }
 }

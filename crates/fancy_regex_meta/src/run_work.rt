@@ -15,6 +15,12 @@ const WORK_PER_START_BYTE: u64 = 64;
 /// What a run may do first where an earlier search of the text was made.
 const LEAST_SHARE: u64 = 64;
 
+/// How many searches are made before it is asked how far apart their matches are.
+const FIRST_SEARCHES: u64 = 8;
+
+/// How many bytes a search has to come on by on the average, so that it pays to walk from its first starts before a run.
+const LEAST_DISTANCE: u64 = 16;
+
 /// How much more the next run may do where one was exhausted.
 const GROWTH: u64 = 4;
 
@@ -35,6 +41,10 @@ pub struct RunWork {
     share: u64,
     /// What the first run of the next search may do.
     next_share: u64,
+    /// How many runs have answered.
+    answers: u64,
+    /// How many bytes lie between the starts of these searches and those of their matches, all together.
+    distance: u64,
 }
 
 impl RunWork {
@@ -48,6 +58,8 @@ impl RunWork {
             place: 0,
             share: 0,
             next_share: LEAST_SHARE,
+            answers: 0,
+            distance: 0,
         }
     }
 
@@ -81,6 +93,14 @@ impl RunWork {
         self.spent
     }
 
+    /// Whether it pays to walk from the first starts of a search before a run: not where most searches so far have found their match next
+    /// to where they began.
+    #[inline(always)]
+    pub(crate) fn walks(&self) -> bool {
+        self.answers < FIRST_SEARCHES
+            || self.distance >= self.answers.saturating_mul(LEAST_DISTANCE)
+    }
+
     /// What the next run may do.
     #[inline(always)]
     pub(crate) fn allowance(&self) -> Allowance {
@@ -95,6 +115,9 @@ impl RunWork {
     /// little less, so that one long look does not count for all that follow.
     #[inline(always)]
     pub(crate) fn answered(&mut self, start: usize, looks: u64) {
+        self.answers = self.answers.saturating_add(1);
+        let came = start.saturating_sub(self.place) as u64;
+        self.distance = self.distance.saturating_add(came);
         if self.shared {
             let distance = start.saturating_sub(self.place) as u64;
             let looks = looks.saturating_sub(distance.saturating_mul(WORK_PER_START_BYTE));

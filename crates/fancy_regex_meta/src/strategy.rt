@@ -1,6 +1,6 @@
 //! What executes a compiled pattern: the linear-time matcher in bounded steps, or a backtracking program. A pattern that is easy but for
 //! look-arounds for one character, half word boundaries or starts of lines of Oniguruma mode keeps its program, and may be searched by the
-//! matcher. One with look-aheads or atomic groups may keep states beside its program.
+//! matcher. One that refers to no matched text may keep states beside its program, and a relaxed pattern by which its searches skip starts.
 
 ghost use Rattle.std.specs.Prelude.{◌≡◌, ◌≤◌, ◌+◌, ◌-◌, ◌*◌, ◌^◌, ◌<◌, ◌↔◌, ℕ, Option, min, true, false, is_some, length, IfOk, IfErr, IfSome, IsSome, option_map, IsCharBoundary};
 ghost use Rattle.fancy_regex_tree.specs.Tree.{Tree};
@@ -25,7 +25,7 @@ ghost use Rattle.fancy_regex_info.specs.declared.error.CompileError.TheVariants 
 ghost use Rattle.fancy_regex_meta.specs.EasyPatterns.{is_easy_strategy};
 ghost use Rattle.fancy_regex_meta.specs.LinearPatterns.{HasStates, is_linear_strategy};
 ghost use Rattle.fancy_regex_meta.specs.FoundParts.{found_parts, wanted_parts};
-ghost use Rattle.fancy_regex_meta.specs.Strategies.{IsMatcherFor, IsRegularFor, IsProgramFor, Executes, RunsUnder, StrategyKeepsCap};
+ghost use Rattle.fancy_regex_meta.specs.Strategies.{IsMatcherFor, IsRegularFor, IsProgramFor, IsRelaxedFor, IsNextStart, Executes, RunsUnder, StrategyKeepsCap};
 ghost use Rattle.fancy_regex_meta.specs.Strategies.{unlimited as unlimited_options, unlimited_run, search_of};
 ghost use Rattle.fancy_regex_meta.specs.Kept.{StrategyKeeps};
 ghost use Rattle.fancy_regex_regular.specs.Kept.{IsKeptOf};
@@ -49,6 +49,7 @@ use fancy_regex_machine::{
     run_within,
 };
 use fancy_regex_regular::{Regular, RegularMemory};
+use fancy_regex_relaxed::Relaxed;
 use std::alloc::{AllocError, Global};
 
 /// No search makes more runs of a program: each may do four times as much as the one before, or states answer.
@@ -83,6 +84,8 @@ pub enum Strategy {
         prog: Prog,
         /// The options of its runs, as for any other pattern, but without a limit on backtracks.
         run_options: RunOptions,
+        /// A plain pattern that matches wherever this one does, if it has one: searches skip to its matches.
+        relaxed: Option<Relaxed>,
     },
 }
 
@@ -200,11 +203,15 @@ fn hard_strategy(
     }
     let states = regular_states(alloc, info, options, calls)?;
     match states {
-        Some(regular) => Ok(Strategy::Regular {
-            regular,
-            prog,
-            run_options: unlimited(run_options),
-        }),
+        Some(regular) => {
+            let relaxed = Relaxed::new(alloc, info.expr, &compile_options(options, calls))?;
+            Ok(Strategy::Regular {
+                regular,
+                prog,
+                run_options: unlimited(run_options),
+                relaxed,
+            })
+        }
         None => Ok(Strategy::Program { prog, run_options }),
     }
 }
@@ -255,11 +262,19 @@ fn run_program(
     }
 }
 
+/// Where the match starts, or else the end of the text.
+fn start_in(found: &Option<FoundMatch>, text: &str) -> usize {
+    match found {
+        Some(found) => found.start,
+        None => text.len(),
+    }
+}
+
 /// Where the match of a run starts, or else the end of the text.
 fn start_of(ended: &std::result::Result<Option<FoundMatch>, RuntimeError>, text: &str) -> usize {
     match ended {
-        Ok(Some(found)) => found.start,
-        Ok(None) | Err(_) => text.len(),
+        Ok(found) => start_in(found, text),
+        Err(_) => text.len(),
     }
 }
 
@@ -288,6 +303,7 @@ fn run_in_shares(
             prog,
             options: run_options,
             allowance: work.allowance(),
+            walks: work.walks(),
         };
         match run_program(alloc, &run, text, input, wanted, memory) {
             Ok(ended) => {
@@ -304,10 +320,11 @@ fn run_in_shares(
     Err(Exhausted)
 }
 
-/// Whether a search shares the work that runs may do with the other searches of its text. One for groups does not where the walk of the
-/// states that writes them may go further than the match: that takes longer than a run.
+/// Whether a search shares the work that runs may do with the other searches of its text. One with a walk of the states along the match,
+/// which writes the groups or where `\K` stood, does not where that may go further than the match: that takes longer than a run.
 fn shares_work(regular: &Regular, wanted: MatchDetail) -> bool {
-    matches!(wanted, MatchDetail::Span) || !regular.asks_for_groups()
+    let walks = matches!(wanted, MatchDetail::Groups) || regular.resets_start();
+    !walks || !regular.asks_for_groups()
 }
 
 /// The first match of a pattern with states: by its program, as long as that stays within the work that it may do and meets no limit, and
@@ -347,6 +364,83 @@ fn search_by_either(
         }
     }
     let found = search_regular(alloc, regular, text, input, wanted, &mut memory.parts)?;
+    Ok(found)
+}
+
+/// The start at which a search with this input may begin as well: where the relaxed pattern first matches, as long as it pays to look for
+/// that. `None` if there is no match. The error is want of memory.
+#[inline(always)]
+fn next_start(
+    relaxed: &Option<Relaxed>,
+    text: &str,
+    input: &RunInput,
+    memory: &mut MetaMemory,
+) -> std::result::Result<Option<usize>, AllocError>
+    requires first { IsCharBoundary text.now input.now.first }
+    requires range { input.now.range.end ≤ length text.now }
+    ensures answer { IfOk result (λ found. (o : RegexOptions) (t : Tree) → IsRelaxedFor relaxed.now o t → o.find_not_empty ≡ false
+        → IsNextStart o text.now input.now t found) }
+    ensures boundary { IfOk result (λ found. IfSome found (IsCharBoundary text.now)) }
+    ensures parts { memory.new.parts ≡ memory.old.parts }
+{
+    let Some(relaxed) = relaxed else {
+        return Ok(Some(input.first));
+    };
+    let is_whole = !input.anchored && input.range.end == text.len();
+    if !is_whole || input.first > input.range.end || !memory.skips.pay() {
+        return Ok(Some(input.first));
+    }
+    let mut steps = Steps::new();
+    let found = relaxed.first_start(text, input, &mut steps, &mut memory.easy)?;
+    let start = found.unwrap_or(text.len());
+    memory.skips.note(input.first, start, steps.count());
+    if !text.is_char_boundary(start) {
+        return Ok(Some(input.first));
+    }
+    Ok(found)
+}
+
+/// The first match of a pattern with states, as `search_by_either`: from the first start on at which the relaxed pattern matches. The
+/// error is want of memory.
+#[inline(always)]
+fn search_skipping(
+    alloc: Global,
+    regular: &Regular,
+    relaxed: &Option<Relaxed>,
+    prog: &Prog,
+    run_options: &RunOptions,
+    text: &str,
+    input: &RunInput,
+    wanted: MatchDetail,
+    memory: &mut MetaMemory,
+) -> Result<Option<FoundMatch>>
+    requires first { IsCharBoundary text.now input.now.first }
+    requires range { input.now.range.end ≤ length text.now }
+    requires whole { prog.now.whole ≡ true }
+    requires kept { IsKeptOf regular.now text.now memory.old.parts }
+    ensures answer { IfOk result (λ found. (o : RegexOptions) (t : Tree) → IsRegularFor regular.now o t
+        → IsProgramFor prog.now run_options.now (unlimited_options o) t → IsRelaxedFor relaxed.now o t
+        → option_map found_parts found ≡ option_map (wanted_parts wanted (pattern_of t))
+        (first_match (setting_for o.unicode_mode text.now input.now) (pattern_of t) (search_of o input.now))) }
+    ensures memory { IfErr result (λ e. e ≡ told.Memory) }
+    ensures kept { IsKeptOf regular.now text.now memory.new.parts }
+{
+    let next = next_start(relaxed, text, input, memory)?;
+    let Some(first) = next else {
+        return Ok(None);
+    };
+    let later = RunInput { first, ..*input };
+    let found = search_by_either(
+        alloc,
+        regular,
+        prog,
+        run_options,
+        text,
+        &later,
+        wanted,
+        memory,
+    )?;
+    memory.skips.came(input.first, start_in(&found, text));
     Ok(found)
 }
 
@@ -518,14 +612,19 @@ impl Strategy {
                 Ok(found)
             }
             Strategy::Program { prog, run_options } => {
+                memory.work.begin(text, input.first, false);
                 let run = ProgramRun {
                     prog,
                     options: run_options,
                     allowance: Allowance::Unbounded,
+                    walks: memory.work.walks(),
                 };
-                let memory = &mut memory.program;
-                match run_program(alloc, &run, text, input, wanted, memory) {
-                    Ok(Ok(found)) => Ok(found),
+                let runs = &mut memory.program;
+                match run_program(alloc, &run, text, input, wanted, runs) {
+                    Ok(Ok(found)) => {
+                        memory.work.answered(start_in(&found, text), 0);
+                        Ok(found)
+                    }
                     Ok(Err(error)) => Err(Error::from(error)),
                     Err(Exhausted) => unreachable!(),
                 }
@@ -534,9 +633,11 @@ impl Strategy {
                 regular,
                 prog,
                 run_options,
-            } => search_by_either(
+                relaxed,
+            } => search_skipping(
                 alloc,
                 regular,
+                relaxed,
                 prog,
                 run_options,
                 text,

@@ -14,4 +14,5 @@ pub mod PlannedStarts
 pub mod LeadingLoopLemmas
 pub mod TextLemmas
 pub mod WalkLemmas
+mod WalkChoiceLemmas
 pub mod RunLemmas

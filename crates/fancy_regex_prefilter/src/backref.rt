@@ -56,7 +56,7 @@ pub(crate) fn are_same_bytes(
 /// Whether another byte stands at `position` than at `start`, so that the bytes in `start..end`, of which there are some, are not those in
 /// `position..next`, which has the same length.
 #[inline(always)]
-fn begins_otherwise(
+pub fn begins_otherwise(
     run: &RunContext<'_>,
     start: usize,
     end: usize,

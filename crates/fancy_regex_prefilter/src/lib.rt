@@ -21,5 +21,6 @@ pub mod refusals;
 mod repeated_characters;
 pub mod run_context;
 pub mod start;
+mod walk_choices;
 pub mod walk_hints;
 mod walks;

@@ -19,6 +19,8 @@ pub struct RunContext<'r> {
     pub look_behind: Option<LeadingLookBehind<'r>>,
     /// Whether a walk from a start may tell more than the characters around it.
     pub walks: bool,
+    /// The first start from which it pays to walk.
+    pub walks_from: usize,
     /// The whole text.
     pub text: &'r str,
     /// Where a match may start and end, and what assertions see of the text.

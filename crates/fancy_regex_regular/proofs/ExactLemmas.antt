@@ -18,8 +18,8 @@ use Rattle.fancy_regex_regular.specs.Supported.{IsSupported, IsSupportedOrShort}
 blind : View
 blind = record { has = λ leaf i. false; next = λ i. i; back = λ i. None; holds = λ test i. false; longest = false; has_parts = true }
 
-module _ (unicode : Bool) (states : List State) (entry : ℕ) (matchers : List CharClassMatcher) (pattern : Pattern)
-    (is : AreRegularStates unicode states entry matchers pattern) where
+module _ (unicode resets : Bool) (states : List State) (entry : ℕ) (matchers : List CharClassMatcher) (pattern : Pattern)
+    (is : AreRegularStates unicode resets states entry matchers pattern) where
   -- the entry is a state, and states lead to states
   pub entry_inside : entry < length states
   unfolding blind

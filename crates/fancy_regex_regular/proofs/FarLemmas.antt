@@ -1,23 +1,17 @@
--- From where the first match starts to the end of the longest one there.
-use Rattle.std.proofs.Common.{◌≡◌, ◌∙◌, ℕ, ◌+◌, ◌<◌, ◌≤◌, Bool, true, false, List, length, Option, Some, None, refl, sym, ap, ap₂, subst}
-use Rattle.std.specs.Prelude.{option_map, IfSome, IsCharBoundary}
+-- From where the attempt that finds the first match starts to the end of the longest way there.
+use Rattle.std.proofs.Common.{◌≡◌, ◌∙◌, ℕ, ◌+◌, ◌<◌, ◌≤◌, Bool, true, false, List, [], ◌∷◌, Option, Some, None, refl, sym, ap, subst}
+use Rattle.std.specs.Prelude.{option_map, IfSome}
 use Rattle.std.specs.List.{filter}
 use Rattle.std.proofs.lemmas.Option.{none-some, same_Some}
 use Rattle.fancy_regex_meaning.specs.Groups.{Pattern}
-use Rattle.fancy_regex_meaning.specs.Searches.{Match, chosen, first_match, is_admitted, match_at, match_of, starts, ways_at}
+use Rattle.fancy_regex_meaning.specs.Searches.{Match, chosen, first_match, first_some, is_admitted, match_at, match_of, starts, ways_at}
 use Rattle.fancy_regex_meaning.specs.Ways.{MatchState, Setting}
-use Rattle.fancy_regex_class.specs.RunInputs.{setting_for, search_for}
+use Rattle.fancy_regex_class.specs.RunInputs.{search_for}
 use Rattle.fancy_regex_class.specs.declared.input.RunInput.{RunInput}
-use Rattle.fancy_regex_parts.specs.Frames.{IsInReach}
-use Rattle.fancy_regex_parts.specs.declared.table.PartTable.{PartTable}
 use Rattle.fancy_regex_linear.specs.EasyPatterns.{span_of_match}
-use Rattle.fancy_regex_tree.specs.Tree.{Text}
-use Rattle.fancy_regex_linear.specs.Calls.{IsOfTree, greatest_nesting, AreAt, IsCalled}
-use Rattle.fancy_regex_linear.specs.Plain.{IsRegular, classes}
-use Rattle.fancy_regex_linear.specs.Re.{Re}
+use Rattle.fancy_regex_regular.specs.Attempts.{attempt_at, first_attempt}
 use Rattle.fancy_regex_regular.specs.Ends.{first_in, end_in, ways_from, IsEndFrom}
 use Rattle.fancy_regex_regular.specs.declared.regular.Regular.{Regular}
-use Rattle.fancy_regex_regular.proofs.AskedLemmas.{begins_at}
 use Rattle.fancy_regex_regular.proofs.LongestLemmas.{IsLongest, first_at_all, first_start, first_there, found_between, is_longest, longest_is, none_at_all, none_later, none_longest, none_over}
 
 -- what was mapped
@@ -34,11 +28,16 @@ none_mapped : {A B : Type 0} (f : A → B) (o : Option A) → option_map f o ≡
 none_mapped f None e = refl
 none_mapped f (Some x) e = absurd (none-some (f x) (sym e))
 
--- the start that was found is a place
-pub boundary_of : (table : PartTable) (text : List ℕ) (base q : ℕ) (o : Option (ℕ × ℕ)) → IfSome o (λ span. IsInReach table text base q span.0)
-    → IfSome o (λ span. IsCharBoundary text span.0)
-boundary_of table text base q None h = tt
-boundary_of table text base q (Some span) h = h.boundary
+-- where each of a list answers alike, the first answers are alike
+module _ {A B C : Type 0} (v : B → C) (f : A → Option B) (g : A → Option C) where
+  mapped_here : (a later : Option B) (b rest : Option C) → option_map v a ≡ b → option_map v later ≡ rest
+      → option_map v (elim a [ None ↦ later | Some y ↦ Some y ]) ≡ elim b [ None ↦ rest | Some y ↦ Some y ]
+  mapped_here None later b rest e h = rw (sym e) h
+  mapped_here (Some y) later b rest e h = rw (sym e) refl
+
+  first_some_mapped : ((x : A) → option_map v (f x) ≡ g x) → (xs : List A) → option_map v (first_some f xs) ≡ first_some g xs
+  first_some_mapped h [] = refl
+  first_some_mapped h (x ∷ xs) = mapped_here (f x) (first_some f xs) (g x) (first_some g xs) (h x) (first_some_mapped h xs)
 
 abbrev position_of : MatchState → ℕ
 position_of w = w.position
@@ -74,16 +73,14 @@ pub end_is_between : (least stop : ℕ) (ws : List MatchState) (o : Option ℕ) 
 end_is_between least stop ws None is = tt
 end_is_between least stop ws (Some e) is = end_between least stop e ws (sym is)
 
-module _ (unicode : Bool) (text : List ℕ) (input : RunInput) (pattern : Pattern) (of_tree : IsOfTree pattern) (cs : List (Text × Bool)) (base : ℕ) (called : ℕ → Re)
-    (is_regular : IsRegular (λ j. IsCalled pattern.groups unicode cs (greatest_nesting (length pattern.groups)) j (called j)) pattern.tree)
-    (stand : AreAt cs base (classes pattern.tree)) where
-  abbrev s : Setting
-  s = setting_for unicode text input
-
+module _ (s : Setting) (pattern : Pattern) (input : RunInput) where
   abbrev stop : ℕ
   stop = input.range.end
 
-  -- the match at a place, and the places
+  -- the attempt and the match at a place, and the places
+  abbrev attempt_there : Bool → ℕ → Option (ℕ × ℕ)
+  attempt_there longest = attempt_at s pattern (search_for longest input)
+
   abbrev match_there : Bool → ℕ → Option Match
   match_there longest = match_at s pattern (search_for longest input)
 
@@ -96,47 +93,48 @@ module _ (unicode : Bool) (text : List ℕ) (input : RunInput) (pattern : Patter
   abbrev admitted : ℕ → List MatchState
   admitted p = filter (is_admitted (search_for false input)) (ways_there p)
 
-  -- what a match at a place is the match of
-  pub record IsMatchOf (longest : Bool) (p : ℕ) (m : Match) : Type 0 where
+  -- the way that an attempt at a place finds
+  pub record IsWayOf (longest : Bool) (p : ℕ) (span : ℕ × ℕ) : Type 0 where
     pub state : MatchState
     pub chosen_is : chosen longest (admitted p) ≡ Some state
-    pub match_is : match_of state ≡ m
-    pub begins : state.match_start ≡ p
+    pub start_is : p ≡ span.0
+    pub end_is : state.position ≡ span.1
 
-  of_match : (longest : Bool) (p : ℕ) (m : Match) → match_there longest p ≡ Some m → IsMatchOf longest p m
+  way_of : (longest : Bool) (p : ℕ) (span : ℕ × ℕ) → attempt_there longest p ≡ Some span → IsWayOf longest p span
+  way_of longest p span e =
+      let w = mapped (λ (w : MatchState). (p, w.position)) (chosen longest (admitted p)) span e in
+      record { state = w.item; chosen_is = w.is; start_is = ap (λ (x : ℕ × ℕ). x.0) w.value; end_is = ap (λ (x : ℕ × ℕ). x.1) w.value }
+
+  -- where there is no first way, there is no longest
+  no_attempt : (p : ℕ) → attempt_there false p ≡ None → attempt_there true p ≡ None
+  no_attempt p e =
+      ap (option_map (λ w. (p, w.position))) (none_longest (admitted p) (none_mapped (λ (w : MatchState). (p, w.position)) (chosen false (admitted p)) e))
+
+  -- where there is no way, there is no match
+  no_match : (longest : Bool) (p : ℕ) → attempt_there longest p ≡ None → match_there longest p ≡ None
   unfolding match_at
-  of_match longest p m e =
-      let w = mapped match_of (chosen longest (admitted p)) m e in
-      record { state = w.item; chosen_is = w.is; match_is = w.value; begins = begins_at unicode text input pattern of_tree cs base called is_regular stand longest p w.item w.is }
+  no_match longest p e = ap (option_map match_of) (none_mapped (λ (w : MatchState). (p, w.position)) (chosen longest (admitted p)) e)
 
-  match_with : (longest : Bool) (p : ℕ) (w : MatchState) → chosen longest (admitted p) ≡ Some w → match_there longest p ≡ Some (match_of w)
-  unfolding match_at
-  match_with longest p w e = ap (option_map match_of) e
+  pub none_found : {A : Type 0} (longest : Bool) (f : Match → A) → None ≡ first_attempt s pattern (search_for longest input)
+      → None ≡ option_map f (first_match s pattern (search_for longest input))
+  unfolding first_match
+  none_found longest f e = sym (ap (option_map f) (none_at_all (attempt_there longest) (match_there longest) (no_match longest) places (sym e)))
 
-  -- where there is no first match, there is no longest
-  no_match : (p : ℕ) → match_there false p ≡ None → match_there true p ≡ None
-  unfolding match_at
-  no_match p e = ap (option_map match_of) (none_longest (admitted p) (none_mapped match_of (chosen false (admitted p)) e))
-
-  -- What is known of the longest match where the first one starts at a place: a way ends where the first match does, and the longest match
-  -- ends where the last way does.
+  -- What is known of the longest match where the attempt that finds the first one starts at a place: a way ends where the first match does, and
+  -- the longest match ends where the last way does.
   pub record IsFirstAt (start end : ℕ) : Type 0 where
     pub way : Some end ≡ end_in end stop (ways_there start)
     pub longest : (e : ℕ) → Some e ≡ end_in e stop (ways_there start) → None ≡ end_in (e + 1) stop (ways_there start)
-        → Some (start, e) ≡ option_map span_of_match (first_match s pattern (search_for true input))
+        → Some (start, e) ≡ first_attempt s pattern (search_for true input)
 
-  pub first_at : (start end : ℕ) → Some (start, end) ≡ option_map span_of_match (first_match s pattern (search_for false input)) → IsFirstAt start end
-  unfolding first_match
+  pub first_at : (start end : ℕ) → Some (start, end) ≡ first_attempt s pattern (search_for false input) → IsFirstAt start end
   first_at start end e =
-      let m = mapped span_of_match (first_match s pattern (search_for false input)) (start, end) (sym e) in
-      let here = first_start (match_there false) (match_there true) no_match places m.item m.is in
-      let of = of_match false here.start m.item here.found in
-      let start_is : here.start ≡ start = sym of.begins ∙ ap (λ (n : Match). n.start) of.match_is ∙ ap (λ (p : ℕ × ℕ). p.0) m.value in
-      let end_is : of.state.position ≡ end = ap (λ (n : Match). n.end) of.match_is ∙ ap (λ (p : ℕ × ℕ). p.1) m.value in
+      let here = first_start (attempt_there false) (attempt_there true) no_attempt places (start, end) (sym e) in
+      let of = way_of false here.start (start, end) here.found in
       let found : first_in 0 stop (ways_there here.start) ≡ Some of.state = sym (first_at_all false input (ways_there here.start)) ∙ of.chosen_is in
       let there = first_there 0 stop (ways_there here.start) of.state found in
-      subst (λ (p : ℕ). IsFirstAt p end) start_is (record {
-        way = subst (λ (x : ℕ). Some x ≡ end_in x stop (ways_there here.start)) end_is (sym (ap (option_map position_of) there));
+      subst (λ (p : ℕ). IsFirstAt p end) of.start_is (record {
+        way = subst (λ (x : ℕ). Some x ≡ end_in x stop (ways_there here.start)) of.end_is (sym (ap (option_map position_of) there));
         longest = λ e way none.
             let w = mapped position_of (first_in e stop (ways_there here.start)) e (sym way) in
             let last = none_mapped position_of (first_in (e + 1) stop (ways_there here.start)) (sym none) in
@@ -145,41 +143,54 @@ module _ (unicode : Bool) (text : List ℕ) (input : RunInput) (pattern : Patter
               last = subst (λ (x : ℕ). first_in (x + 1) stop (ways_there here.start) ≡ None) (sym w.value) last;
             } in
             let chosen_is : chosen true (admitted here.start) ≡ Some w.item = is_longest input (ways_there here.start) w.item longest in
-            let all = here.other (match_of w.item) (match_with true here.start w.item chosen_is) in
-            ap₂ (λ (a b : ℕ). Some (a, b)) (sym (begins_at unicode text input pattern of_tree cs base called is_regular stand true here.start w.item chosen_is)) (sym w.value)
-            ∙ sym (ap (option_map span_of_match) all);
+            let all = here.other (here.start, w.item.position) (ap (option_map (λ w. (here.start, w.position))) chosen_is) in
+            ap (λ (x : ℕ). Some (here.start, x)) (sym w.value) ∙ sym all;
       })
 
   -- where the first match is not found, the wanted one is not
-  pub none_wanted : (longest : Bool) → None ≡ option_map span_of_match (first_match s pattern (search_for false input))
-      → None ≡ option_map span_of_match (first_match s pattern (search_for longest input))
-  unfolding first_match
+  pub none_wanted : (longest : Bool) → None ≡ first_attempt s pattern (search_for false input) → None ≡ first_attempt s pattern (search_for longest input)
   none_wanted false e = e
-  none_wanted true e =
-      sym (ap (option_map span_of_match) (none_at_all (match_there false) (match_there true) no_match places
-      (none_mapped span_of_match (first_match s pattern (search_for false input)) (sym e))))
+  none_wanted true e = sym (none_at_all (attempt_there false) (attempt_there true) no_attempt places (sym e))
 
-  -- the way of the longest match
-  pub record IsLongestAt (start end : ℕ) : Type 0 where
+  -- the way of the match whose attempt is from a place to another
+  pub record IsMatchFrom (longest : Bool) (start end : ℕ) : Type 0 where
     pub state : MatchState
-    pub there : first_in end stop (ways_there start) ≡ Some state
-    pub begins : state.match_start ≡ start
+    pub chosen_is : chosen longest (admitted start) ≡ Some state
     pub ends : state.position ≡ end
-    pub matched : first_match s pattern (search_for true input) ≡ Some (match_of state)
+    pub here : match_at s pattern (search_for longest input) start ≡ Some (match_of state)
+    pub matched : first_match s pattern (search_for longest input) ≡ Some (match_of state)
 
-  pub longest_at : (start end : ℕ) → Some (start, end) ≡ option_map span_of_match (first_match s pattern (search_for true input)) → IsLongestAt start end
-  unfolding first_match
-  longest_at start end e =
-      let m = mapped span_of_match (first_match s pattern (search_for true input)) (start, end) (sym e) in
-      let here = first_start (match_there true) (match_there true) (λ p h. h) places m.item m.is in
-      let of = of_match true here.start m.item here.found in
-      let start_is : here.start ≡ start = sym of.begins ∙ ap (λ (n : Match). n.start) of.match_is ∙ ap (λ (p : ℕ × ℕ). p.0) m.value in
-      let end_is : of.state.position ≡ end = ap (λ (n : Match). n.end) of.match_is ∙ ap (λ (p : ℕ × ℕ). p.1) m.value in
-      let longest = longest_is input (ways_there here.start) of.state of.chosen_is in
+  pub match_from : (longest : Bool) (start end : ℕ) → Some (start, end) ≡ first_attempt s pattern (search_for longest input) → IsMatchFrom longest start end
+  unfolding first_match match_at
+  match_from longest start end e =
+      let here = first_start (attempt_there longest) (match_there longest) (no_match longest) places (start, end) (sym e) in
+      let of = way_of longest here.start (start, end) here.found in
+      let match_is : match_there longest here.start ≡ Some (match_of of.state) = ap (option_map match_of) of.chosen_is in
       record {
         state = of.state;
-        there = ap₂ (λ (p x : ℕ). first_in x stop (ways_there p)) (sym start_is) (sym end_is) ∙ longest.there;
-        begins = of.begins ∙ start_is;
-        ends = end_is;
-        matched = m.is ∙ ap Some (sym of.match_is);
+        chosen_is = subst (λ (p : ℕ). chosen longest (admitted p) ≡ Some of.state) of.start_is of.chosen_is;
+        ends = of.end_is;
+        here = subst (λ (p : ℕ). match_there longest p ≡ Some (match_of of.state)) of.start_is match_is;
+        matched = here.other (match_of of.state) match_is;
       }
+
+  -- it is the first that ends in the range, or the first that ends where the longest does
+  pub first_from : (start end : ℕ) (m : IsMatchFrom false start end) → first_in 0 stop (ways_there start) ≡ Some m.state
+  first_from start end m = sym (first_at_all false input (ways_there start)) ∙ m.chosen_is
+
+  pub last_from : (start end : ℕ) (m : IsMatchFrom true start end) → first_in end stop (ways_there start) ≡ Some m.state
+  last_from start end m =
+      let longest = longest_is input (ways_there start) m.state m.chosen_is in
+      subst (λ (x : ℕ). first_in x stop (ways_there start) ≡ Some m.state) m.ends longest.there
+
+  -- Where each way begins at the start of its attempt, the span of the match is that of the attempt.
+  span_there : (longest : Bool) (p : ℕ) (o : Option MatchState) → ((w : MatchState) → o ≡ Some w → w.match_start ≡ p)
+      → option_map span_of_match (option_map match_of o) ≡ option_map (λ w. (p, w.position)) o
+  span_there longest p None begins = refl
+  span_there longest p (Some w) begins = ap (λ (k : ℕ). Some (k, w.position)) (begins w refl)
+
+  pub spans_are : (longest : Bool) → ((p : ℕ) (w : MatchState) → chosen longest (admitted p) ≡ Some w → w.match_start ≡ p)
+      → option_map span_of_match (first_match s pattern (search_for longest input)) ≡ first_attempt s pattern (search_for longest input)
+  unfolding first_match match_at
+  spans_are longest begins =
+      first_some_mapped span_of_match (match_there longest) (attempt_there longest) (λ p. span_there longest p (chosen longest (admitted p)) (begins p)) places

@@ -5,7 +5,7 @@ use Rattle.fancy_regex_class.specs.Looks.{looked_text}
 use Rattle.fancy_regex_class.specs.declared.counted.Counted.{Counted}
 use Rattle.fancy_regex_class.specs.declared.input.RunInput.{RunInput}
 use Rattle.fancy_regex_states.specs.Attempts.{View}
-use Rattle.fancy_regex_parts.specs.Frames.{Remembers}
+use Rattle.fancy_regex_parts.specs.Frames.{IsInReach, Remembers}
 use Rattle.fancy_regex_parts.specs.Layers.{CanAsk, HasWays, IsOfText, IsTrueOf, LeavesMemory}
 use Rattle.fancy_regex_parts.specs.Tables.{IsTable}
 use Rattle.fancy_regex_parts.specs.Ways.{Ways, Explains}
@@ -14,6 +14,7 @@ use Rattle.fancy_regex_parts.specs.declared.memory.PartMemory.{PartMemory}
 use Rattle.fancy_regex_parts.specs.declared.step.PartContext.{PartContext}
 use Rattle.fancy_regex_regular.specs.Regulars.{IsContextOf, continue_place, ends_from, lowest_asked}
 use Rattle.fancy_regex_regular.specs.Inputs.{IsOfInput, MemoryServes}
+use Rattle.fancy_regex_regular.specs.Walks.{CanWalk}
 use Rattle.fancy_regex_regular.specs.Kept.{kept_rules, AreTrue, IsTrueFor, IsKeptOf, IsReady}
 use Rattle.fancy_regex_regular.specs.declared.memory.Kept.{Kept}
 use Rattle.fancy_regex_regular.specs.declared.memory.RegularMemory.{RegularMemory}
@@ -95,3 +96,11 @@ module _ (regular : Regular) (text : List ℕ) (input : RunInput) (context : Par
       kept_of memory.kept parts
       (subst (λ (b : ℕ). IfSome memory.kept (λ kept. (b ≡ kept.first) × IsOfInput kept input place)) (sym leaves.base) ready.of_input)
       leaves.stack (rw same at leaves.of_text) (λ view ways has. remembers view ways has (ready.remembers view ways has))
+
+-- a start that was found, where the memory can be asked and serves the search
+pub can_walk : (regular : Regular) (text : List ℕ) (input : RunInput) (memory : RegularMemory) (o : Option (ℕ × ℕ))
+    → MemoryServes memory.kept input (continue_place regular input) (lowest_asked regular input)
+    → IfSome o (λ span. IsInReach regular.table text memory.parts.recall.base regular.entry span.0)
+    → IfSome o (λ span. CanWalk regular text input memory span.0)
+can_walk regular text input memory None serves inside = tt
+can_walk regular text input memory (Some span) serves inside = record { serves = serves; place = inside }

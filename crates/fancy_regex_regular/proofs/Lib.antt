@@ -3,6 +3,7 @@ pub mod LongestLemmas
 pub mod AskedLemmas
 pub mod FarLemmas
 pub mod RegularSpanLemmas
+pub mod ToldLemmas
 pub mod RegularGroupLemmas
 pub mod BuildLemmas
 pub mod RegularWeightLemmas

@@ -1,14 +1,14 @@
 -- Of the ways from a place, the longest is the first of those that end as late as a way ends at all.
-use Rattle.std.proofs.Common.{◌≡◌, ◌∙◌, ℕ, ◌+◌, ◌<◌, ◌≤◌, ◌&&◌, ◌⊎◌, Bool, true, false, true≢false, cond, not, List, [], ◌∷◌, Option, Some, None, nat_le, nat_lt, refl, sym, ap, ap₂, subst, inl, inr, arith, lt-ltb, le-ltb, le-leb, leb-true}
+use Rattle.std.proofs.Common.{◌≡◌, ◌∙◌, ℕ, ◌+◌, ◌<◌, ◌≤◌, ◌&&◌, ◌⊎◌, Bool, true, false, true≢false, cond, List, [], ◌∷◌, Option, Some, None, nat_le, refl, sym, ap, ap₂, subst, inl, inr, arith, lt-ltb, le-ltb, le-leb, leb-true}
 use Rattle.std.specs.List.{filter}
 use Rattle.std.specs.Prelude.{if◌then◌else◌}
 use Rattle.std.proofs.lemmas.Bool.{and_parts, cases_lt}
 use Rattle.std.proofs.lemmas.Option.{none-some, same_Some}
-use Rattle.fancy_regex_meaning.specs.Searches.{Match, first_item, first_some, farther, first_longest, is_admitted}
+use Rattle.fancy_regex_meaning.specs.Searches.{first_item, first_some, farther, first_longest, is_admitted}
 use Rattle.fancy_regex_meaning.specs.Ways.{MatchState}
 use Rattle.fancy_regex_class.specs.RunInputs.{search_for}
 use Rattle.fancy_regex_class.specs.declared.input.RunInput.{RunInput}
-use Rattle.fancy_regex_regular.specs.Ends.{first_in, end_in}
+use Rattle.fancy_regex_regular.specs.Ends.{first_in}
 
 -- whether a way ends between these places
 abbrev inside : ℕ → ℕ → MatchState → Bool
@@ -232,24 +232,24 @@ pub none_longest : (us : List MatchState) → first_item us ≡ None → first_l
 none_longest [] e = refl
 none_longest (u ∷ us) e = absurd (none-some u (sym e))
 
--- The first start that has a match has one of either kind: where the one is found there, so is the other.
-module _ (f g : ℕ → Option Match) (same : (p : ℕ) → f p ≡ None → g p ≡ None) where
+-- The first start that has an answer of the one kind has one of the other: where it is found there, it is the first of its kind.
+module _ {A B : Type 0} (f : ℕ → Option A) (g : ℕ → Option B) (same : (p : ℕ) → f p ≡ None → g p ≡ None) where
   -- what was found of the one kind, and the place where
-  pub record IsFirstStart (ps : List ℕ) (m : Match) : Type 0 where
+  pub record IsFirstStart (ps : List ℕ) (m : A) : Type 0 where
     pub start : ℕ
     pub found : f start ≡ Some m
-    pub other : (n : Match) → g start ≡ Some n → first_some g ps ≡ Some n
+    pub other : (n : B) → g start ≡ Some n → first_some g ps ≡ Some n
 
-  none_here : (o rest r : Option Match) → o ≡ None → rest ≡ r → ◌≡◌ {A = Option Match} (elim o [ None ↦ rest | Some y ↦ Some y ]) r
+  none_here : (o rest r : Option B) → o ≡ None → rest ≡ r → ◌≡◌ {A = Option B} (elim o [ None ↦ rest | Some y ↦ Some y ]) r
   none_here None rest r e h = h
   none_here (Some y) rest r e h = absurd (none-some y (sym e))
 
-  some_here : (o rest : Option Match) (n : Match) → o ≡ Some n → ◌≡◌ {A = Option Match} (elim o [ None ↦ rest | Some y ↦ Some y ]) (Some n)
+  some_here : (o rest : Option B) (n : B) → o ≡ Some n → ◌≡◌ {A = Option B} (elim o [ None ↦ rest | Some y ↦ Some y ]) (Some n)
   some_here None rest n e = absurd (none-some n e)
   some_here (Some y) rest n e = e
 
-  start_here : (p : ℕ) (ps : List ℕ) (m : Match) (o : Option Match) → f p ≡ o
-      → ◌≡◌ {A = Option Match} (elim o [ None ↦ first_some f ps | Some y ↦ Some y ]) (Some m)
+  start_here : (p : ℕ) (ps : List ℕ) (m : A) (o : Option A) → f p ≡ o
+      → ◌≡◌ {A = Option A} (elim o [ None ↦ first_some f ps | Some y ↦ Some y ]) (Some m)
       → (first_some f ps ≡ Some m → IsFirstStart ps m) → IsFirstStart (p ∷ ps) m
   start_here p ps m None is e later =
       let rest = later e in
@@ -257,11 +257,11 @@ module _ (f g : ℕ → Option Match) (same : (p : ℕ) → f p ≡ None → g p
   start_here p ps m (Some y) is e later =
       record { start = p; found = is ∙ e; other = λ n there. some_here (g p) (first_some g ps) n there }
 
-  pub first_start : (ps : List ℕ) (m : Match) → first_some f ps ≡ Some m → IsFirstStart ps m
+  pub first_start : (ps : List ℕ) (m : A) → first_some f ps ≡ Some m → IsFirstStart ps m
   first_start [] m e = absurd (none-some m e)
   first_start (p ∷ ps) m e = start_here p ps m (f p) refl e (first_start ps m)
 
-  none_there : (p : ℕ) (ps : List ℕ) (o : Option Match) → f p ≡ o → ◌≡◌ {A = Option Match} (elim o [ None ↦ first_some f ps | Some y ↦ Some y ]) None
+  none_there : (p : ℕ) (ps : List ℕ) (o : Option A) → f p ≡ o → ◌≡◌ {A = Option A} (elim o [ None ↦ first_some f ps | Some y ↦ Some y ]) None
       → (first_some f ps ≡ None → first_some g ps ≡ None) → first_some g (p ∷ ps) ≡ None
   none_there p ps None is e rest = none_here (g p) (first_some g ps) None (same p is) (rest e)
   none_there p ps (Some y) is e rest = absurd (none-some y (sym e))

@@ -43,7 +43,7 @@ module _ (regular : Regular) where
   paid_within text parts kept is_true low pattern is =
       let places : ℕ = length text - parts.recall.base + 1 in
       let known = known_most regular.table parts.recall places is_true.rows is_true.width in
-      let light = states_light regular.unicode regular.table.states.items regular.entry regular.matchers.items pattern is.states in
+      let light = states_light regular.unicode regular.resets_start regular.table.states.items regular.entry regular.matchers.items pattern is.states in
       let all : table_weight regular.table * (parts.recall.base + places) ≤ table_weight regular.table * (length text + 1) =
       mul-le-mul_left (table_weight regular.table) (omega (arith, low)) in
       let weighs : (length text + 1) * table_weight regular.table ≤ (length text + 1) * (2 * tree_state_weight pattern.groups pattern.tree) =
@@ -60,7 +60,7 @@ module _ (regular : Regular) where
       → before ≤ base + known → new + known ≤ old + starts * (due regular.table regular.entry + 1) + known_after → after ≡ base + known_after
       → new + before ≤ old + after + 2 * tree_state_weight pattern.groups pattern.tree * starts
   looks_on pattern is starts before after known known_after base old new paid counted is_after =
-      let light = states_light regular.unicode regular.table.states.items regular.entry regular.matchers.items pattern is.states in
+      let light = states_light regular.unicode regular.resets_start regular.table.states.items regular.entry regular.matchers.items pattern is.states in
       let cheap = (regular.right.right regular.entry regular.inside).cheap in
       let due_is = due_most (mark_of regular.table regular.entry) (cost_of regular.table regular.entry) in
       let each : starts * (due regular.table regular.entry + 1) ≤ starts * (2 * tree_state_weight pattern.groups pattern.tree) =

@@ -1,7 +1,7 @@
 -- The states of a regular pattern weigh at most twice as much as its tree, and a search looks at the text accordingly.
-use Rattle.std.proofs.Common.{◌≡◌, ◌≢◌, ℕ, zero, suc, ◌+◌, ◌*◌, ◌-◌, ◌≤◌, max, Bool, true, false, cond, not, List, [], ◌∷◌, length, Option, Some, None, if◌then◌else◌, refl, sym, ap, arith}
+use Rattle.std.proofs.Common.{◌≡◌, ◌≢◌, ℕ, zero, suc, ◌+◌, ◌*◌, ◌-◌, ◌≤◌, max, Bool, true, false, true≢false, cond, not, List, [], ◌∷◌, length, Option, Some, None, if◌then◌else◌, refl, sym, ap, arith}
 use Rattle.std.proofs.Math.Nat.{mul-le-mul_left}
-use Rattle.fancy_regex_tree.specs.Tree.{Tree, Trees, Text, empty, any, assertion, general_newline, literal, concat, alt, group, look_around, repeat, delegate, atomic_group, conditional, verb, continue, define_group, subroutine_call, no_trees, more_trees}
+use Rattle.fancy_regex_tree.specs.Tree.{Tree, Trees, Text, empty, any, assertion, general_newline, literal, concat, alt, group, look_around, repeat, delegate, atomic_group, conditional, verb, keep_out, continue, define_group, subroutine_call, no_trees, more_trees}
 use Rattle.fancy_regex_tree.specs.declared.expr.Assertion.{Assertion}
 use Rattle.fancy_regex_tree.specs.declared.expr.Assertion.TheVariants.{EndTextIgnoreTrailingNewlines}
 use Rattle.fancy_regex_tree.specs.declared.expr.LookAround.{LookAround}
@@ -89,7 +89,7 @@ out_light false x n h = h refl
 
 module _ (unicode : Bool) (groups : List Tree) (called : ℕ → Re) (call : ℕ → ℕ) (known : ℕ → Type 0)
     (call_light : (j : ℕ) → known j → weight (called j) ≤ 2 * call j)
-    (flag : (n k : ℕ) (t : Tree) → IsRegular known t → not (may_be_empty groups t) ≡ never_empty (re_of unicode groups called n k t)) where
+    (flag : (resets : Bool) (n k : ℕ) (t : Tree) → IsRegular resets known t → not (may_be_empty groups t) ≡ never_empty (re_of unicode groups called n k t)) where
   -- a repeat of what weighs at most twice as much
   repeat_light : (u b strict : Bool) (lo hi v w : ℕ) → not b ≡ strict → v ≤ 2 * w
       → repeat_weight u strict lo hi v ≤ 2 * sizes.repeat_weight groups lo (cond u None (Some hi)) w b
@@ -103,48 +103,49 @@ module _ (unicode : Bool) (groups : List Tree) (called : ℕ → Re) (call : ℕ
   mutual
     unfolding re_of around each_around weight state_weight branch_gaps steps_of each_steps
 
-    regular_light : (n k : ℕ) (t : Tree) → IsRegular known t → weight (re_of unicode groups called n k t) ≤ 2 * state_weight groups call t
-    regular_light n k empty p = omega arith
-    regular_light n k (any newline crlf) p = omega arith
-    regular_light n k (literal val casei) p = omega arith
-    regular_light n k (delegate class casei) p = omega arith
-    regular_light n k (general_newline wide) p = newline_light wide
-    regular_light n k (assertion a) p = served_light a
-    regular_light n k (concat ts) p = omega (arith, regular_row n k ts p)
-    regular_light n k (alt ts) p = regular_branches n k ts p.0 p.1
-    regular_light n k (group t) p = omega (arith, regular_light (n + 1) k t p)
-    regular_light n k (look_around t how) p = around_light n k how t p (regular_light n k t p)
-    regular_light n k (atomic_group t) p = omega (arith, regular_light n k t p)
-    regular_light n k (conditional c a b) p =
+    regular_light : (resets : Bool) (n k : ℕ) (t : Tree) → IsRegular resets known t → weight (re_of unicode groups called n k t) ≤ 2 * state_weight groups call t
+    regular_light resets n k empty p = omega arith
+    regular_light resets n k (any newline crlf) p = omega arith
+    regular_light resets n k (literal val casei) p = omega arith
+    regular_light resets n k (delegate class casei) p = omega arith
+    regular_light resets n k (general_newline wide) p = newline_light wide
+    regular_light resets n k (assertion a) p = served_light a
+    regular_light resets n k (concat ts) p = omega (arith, regular_row resets n k ts p)
+    regular_light resets n k (alt ts) p = regular_branches resets n k ts p.0 p.1
+    regular_light resets n k (group t) p = omega (arith, regular_light resets (n + 1) k t p)
+    regular_light resets n k (look_around t how) p = around_light n k how t p (regular_light false n k t p)
+    regular_light resets n k (atomic_group t) p = omega (arith, regular_light resets n k t p)
+    regular_light resets n k (conditional c a b) p =
         omega (
           arith,
-          regular_light n k c p.0,
-          regular_light (n + group_count c) (k + length (classes c)) a p.1.0,
-          regular_light (n + group_count c + group_count a) (k + length (classes c) + length (classes a)) b p.1.1,
+          regular_light resets n k c p.0,
+          regular_light resets (n + group_count c) (k + length (classes c)) a p.1.0,
+          regular_light resets (n + group_count c + group_count a) (k + length (classes c) + length (classes a)) b p.1.1,
         )
-    regular_light n k (define_group t) p = omega arith
-    regular_light n k (subroutine_call j) p = call_light j p
-    regular_light n k (repeat t lo hi greedy) p =
+    regular_light resets n k (define_group t) p = omega arith
+    regular_light resets n k keep_out p = omega arith
+    regular_light resets n k (subroutine_call j) p = call_light j p
+    regular_light resets n k (repeat t lo hi greedy) p =
         out_light (has_no_iteration lo hi) _ _
-        (λ made. repeat_light (is_unbounded hi) (may_be_empty groups t) (never_empty (re_of unicode groups called n k t)) lo hi _ _ (flag n k t (p made)) (regular_light n k t (p made)))
-    regular_light n k (verb v) p = omega arith
-    regular_light n k continue p = omega arith
-    regular_light n k _ p = absurd p
+        (λ made. repeat_light (is_unbounded hi) (may_be_empty groups t) (never_empty (re_of unicode groups called n k t)) lo hi _ _ (flag resets n k t (p made)) (regular_light resets n k t (p made)))
+    regular_light resets n k (verb v) p = omega arith
+    regular_light resets n k continue p = omega arith
+    regular_light resets n k _ p = absurd p
 
-    regular_row : (n k : ℕ) (ts : Trees) → AreRegular known ts → weight (row_of unicode groups called n k ts) ≤ 2 * state_weights groups call ts
-    regular_row n k no_trees p = omega arith
-    regular_row n k (more_trees t ts) p =
-        omega (arith, regular_light n k t p.0, regular_row (n + group_count t) (k + length (classes t)) ts p.1)
+    regular_row : (resets : Bool) (n k : ℕ) (ts : Trees) → AreRegular resets known ts → weight (row_of unicode groups called n k ts) ≤ 2 * state_weights groups call ts
+    regular_row resets n k no_trees p = omega arith
+    regular_row resets n k (more_trees t ts) p =
+        omega (arith, regular_light resets n k t p.0, regular_row resets (n + group_count t) (k + length (classes t)) ts p.1)
 
-    regular_branches : (n k : ℕ) (ts : Trees) → (ts ≢ no_trees) → AreRegular known ts
+    regular_branches : (resets : Bool) (n k : ℕ) (ts : Trees) → (ts ≢ no_trees) → AreRegular resets known ts
         → weight (branches_of unicode groups called n k ts) ≤ 2 * (state_weights groups call ts + 3 * branch_gaps groups ts)
-    regular_branches n k no_trees some p = absurd (some refl)
-    regular_branches n k (more_trees t no_trees) some p = omega (arith, regular_light n k t p.0)
-    regular_branches n k (more_trees t (more_trees u us)) some p =
-        omega (arith, regular_light n k t p.0, regular_branches (n + group_count t) (k + length (classes t)) (more_trees u us) (λ e. cc) p.1)
+    regular_branches resets n k no_trees some p = absurd (some refl)
+    regular_branches resets n k (more_trees t no_trees) some p = omega (arith, regular_light resets n k t p.0)
+    regular_branches resets n k (more_trees t (more_trees u us)) some p =
+        omega (arith, regular_light resets n k t p.0, regular_branches resets (n + group_count t) (k + length (classes t)) (more_trees u us) (λ e. cc) p.1)
 
     -- a look-around over a tree
-    around_light : (n k : ℕ) (how : LookAround) (t : Tree) → IsRegular known t → weight (re_of unicode groups called n k t) ≤ 2 * state_weight groups call t
+    around_light : (n k : ℕ) (how : LookAround) (t : Tree) → IsRegular false known t → weight (re_of unicode groups called n k t) ≤ 2 * state_weight groups call t
         → weight (around unicode groups called n k how (re_of unicode groups called n k t) t) ≤ 2 * (1 + state_weight groups call t + stepping_weight groups how t)
     around_light n k L.LookAhead (alt ts) p light = asked_light false 0 (re_of unicode groups called n k (alt ts)) (state_weight groups call (alt ts)) 0 light (omega arith)
     around_light n k L.LookAheadNeg (alt ts) p light = asked_light true 0 (re_of unicode groups called n k (alt ts)) (state_weight groups call (alt ts)) 0 light (omega arith)
@@ -172,16 +173,17 @@ module _ (unicode : Bool) (groups : List Tree) (called : ℕ → Re) (call : ℕ
     around_light n k how (verb v) p light = asking_light unicode groups called call n k how (verb v) refl light
     around_light n k how continue p light = asking_light unicode groups called call n k how continue refl light
     around_light n k how (repeat t lo hi greedy) p light = asking_light unicode groups called call n k how (repeat t lo hi greedy) refl light
+    around_light n k how keep_out p light = absurd (true≢false (sym p))
     around_light n k how _ p light = absurd p
 
-    each_cats : (n k : ℕ) (how : LookAround) → ((t : Tree) → stepping_weight groups how t ≡ steps_of groups t) → (ts : Trees) → (ts ≢ no_trees) → AreRegular known ts
+    each_cats : (n k : ℕ) (how : LookAround) → ((t : Tree) → stepping_weight groups how t ≡ steps_of groups t) → (ts : Trees) → (ts ≢ no_trees) → AreRegular false known ts
         → weight (re.cats (each_around unicode groups called n k how ts)) ≤ 2 * (1 + (state_weights groups call ts + 3 * branch_gaps groups ts) + each_steps groups ts)
     each_cats n k how is no_trees some p = absurd (some refl)
     each_cats n k how is (more_trees t no_trees) some p =
-        let here = around_light n k how t p.0 (regular_light n k t p.0) in
+        let here = around_light n k how t p.0 (regular_light false n k t p.0) in
         omega (arith, here, is t, cats_one (around unicode groups called n k how (re_of unicode groups called n k t) t))
     each_cats n k how is (more_trees t (more_trees u us)) some p =
-        let here = around_light n k how t p.0 (regular_light n k t p.0) in
+        let here = around_light n k how t p.0 (regular_light false n k t p.0) in
         let later = each_cats (n + group_count t) (k + length (classes t)) how is (more_trees u us) (λ e. cc) p.1 in
         omega (
           arith,
@@ -192,14 +194,14 @@ module _ (unicode : Bool) (groups : List Tree) (called : ℕ → Re) (call : ℕ
               (each_around unicode groups called (n + group_count t) (k + length (classes t)) how (more_trees u us)),
         )
 
-    each_alts : (n k : ℕ) (how : LookAround) → ((t : Tree) → stepping_weight groups how t ≡ steps_of groups t) → (ts : Trees) → (ts ≢ no_trees) → AreRegular known ts
+    each_alts : (n k : ℕ) (how : LookAround) → ((t : Tree) → stepping_weight groups how t ≡ steps_of groups t) → (ts : Trees) → (ts ≢ no_trees) → AreRegular false known ts
         → weight (re.alts (each_around unicode groups called n k how ts)) ≤ 2 * (1 + (state_weights groups call ts + 3 * branch_gaps groups ts) + each_steps groups ts)
     each_alts n k how is no_trees some p = absurd (some refl)
     each_alts n k how is (more_trees t no_trees) some p =
-        let here = around_light n k how t p.0 (regular_light n k t p.0) in
+        let here = around_light n k how t p.0 (regular_light false n k t p.0) in
         omega (arith, here, is t)
     each_alts n k how is (more_trees t (more_trees u us)) some p =
-        let here = around_light n k how t p.0 (regular_light n k t p.0) in
+        let here = around_light n k how t p.0 (regular_light false n k t p.0) in
         let later = each_alts (n + group_count t) (k + length (classes t)) how is (more_trees u us) (λ e. cc) p.1 in
         omega (arith, here, is t, later)
 
@@ -221,20 +223,20 @@ module _ (unicode : Bool) (groups : List Tree) (cs : List (Text × Bool)) where
       let inside =
       regular_light unicode groups called (call_state_weight groups depth) (λ i. IsCalled groups unicode cs depth i (called i))
       (λ i known. call_light depth (omega (arith, le)) i (called i) known)
-      (λ n k t p. called_flag groups unicode cs depth (omega (arith, le)) called n k t p) (j + 1) found.2.1 found.0 found.2.2 in
+      (λ resets n k t p. called_flag groups unicode cs depth (omega (arith, le)) called resets n k t p) false (j + 1) found.2.1 found.0 found.2.2 in
       omega (arith, ap weight found.2.3, body_weighs depth j found.0 found.1, inside)
 
-  whole_light : (depth : ℕ) → depth ≤ length groups → (called : ℕ → Re) (n k : ℕ) (t : Tree)
-      → IsRegular (λ j. IsCalled groups unicode cs depth j (called j)) t
+  whole_light : (depth : ℕ) → depth ≤ length groups → (called : ℕ → Re) (resets : Bool) (n k : ℕ) (t : Tree)
+      → IsRegular resets (λ j. IsCalled groups unicode cs depth j (called j)) t
       → weight (re_of unicode groups called n k t) ≤ 2 * state_weight groups (call_state_weight groups depth) t
-  whole_light depth le called n k t p =
+  whole_light depth le called resets n k t p =
       regular_light unicode groups called (call_state_weight groups depth) (λ j. IsCalled groups unicode cs depth j (called j))
-      (λ j is. call_light depth le j (called j) is) (λ n k t p. called_flag groups unicode cs depth le called n k t p) n k t p
+      (λ j is. call_light depth le j (called j) is) (λ resets n k t p. called_flag groups unicode cs depth le called resets n k t p) resets n k t p
 
 -- A regular pattern has fewer states than twice its weight as states.
-pub states_light : (unicode : Bool) (states : List State) (entry : ℕ) (matchers : List CharClassMatcher) (pattern : Pattern)
-    → AreRegularStates unicode states entry matchers pattern → length states + 3 ≤ 2 * tree_state_weight pattern.groups pattern.tree
-states_light unicode states entry matchers pattern is =
+pub states_light : (unicode resets : Bool) (states : List State) (entry : ℕ) (matchers : List CharClassMatcher) (pattern : Pattern)
+    → AreRegularStates unicode resets states entry matchers pattern → length states + 3 ≤ 2 * tree_state_weight pattern.groups pattern.tree
+states_light unicode resets states entry matchers pattern is =
     let pattern_re = re_of unicode pattern.groups is.called pattern.first_group is.base pattern.tree in
     let most = emitted_weighs pattern_re (End ∷ []) 0 in
     let same = ap (λ (made : List State × ℕ). length made.0) is.program in
@@ -242,7 +244,7 @@ states_light unicode states entry matchers pattern is =
       arith,
       most,
       same,
-      whole_light unicode pattern.groups is.all_classes (greatest_nesting (length pattern.groups)) (omega arith) is.called pattern.first_group is.base pattern.tree is.regular,
+      whole_light unicode pattern.groups is.all_classes (greatest_nesting (length pattern.groups)) (omega arith) is.called resets pattern.first_group is.base pattern.tree is.regular,
     )
 
 -- Of n states, with no more starts than places, each start costs n looks and one more at most, and each place n.
@@ -292,7 +294,7 @@ module _ (regular : Regular) (text : List ℕ) (input : RunInput) where
       → new ≤ old + 4 * tree_state_weight pattern.groups pattern.tree * (length text - base + 1)
   looks_most pattern is low high base old new early most =
       let table = regular.table in
-      let light = states_light regular.unicode table.states.items regular.entry regular.matchers.items pattern is.states in
+      let light = states_light regular.unicode regular.resets_start table.states.items regular.entry regular.matchers.items pattern is.states in
       let cheap = (regular.right.right regular.entry regular.inside).cheap in
       let few = starts_few low high in
       looks_bound (length text - base + 1) (last_start input - input.first + 1) (length table.states.items) (due table regular.entry) (table_weight table)
@@ -304,7 +306,7 @@ module _ (regular : Regular) (text : List ℕ) (input : RunInput) where
       → new ≤ old + 4 * tree_state_weight pattern.groups pattern.tree * (length text - base + 1)
       → new ≤ old + 12 * (tree_state_weight pattern.groups pattern.tree * tree_state_weight pattern.groups pattern.tree) * (length text - base + 1)
   none_for_groups pattern is base old new most =
-      let light = states_light regular.unicode regular.table.states.items regular.entry regular.matchers.items pattern is.states in
+      let light = states_light regular.unicode regular.resets_start regular.table.states.items regular.entry regular.matchers.items pattern is.states in
       let w = tree_state_weight pattern.groups pattern.tree in
       let two : w * (length text - base + 1) * 2 ≤ w * (length text - base + 1) * w = mul-le-mul_left (w * (length text - base + 1)) (omega (arith, light)) in
       omega (arith, most, two)
@@ -318,7 +320,7 @@ module _ (regular : Regular) (text : List ℕ) (input : RunInput) where
   unfolding dearest
   looks_for_groups pattern is base start old found new early first most =
       let table = regular.table in
-      let light = states_light regular.unicode table.states.items regular.entry regular.matchers.items pattern is.states in
+      let light = states_light regular.unicode regular.resets_start table.states.items regular.entry regular.matchers.items pattern is.states in
       let cheap = (regular.right.right regular.entry regular.inside).cheap in
       let due_is = due_most (mark_of table regular.entry) (cost_of table regular.entry) in
       walk_bound (length text - base + 1) (length text - start + 1) (length table.states.items) (due table regular.entry) (table_weight table)

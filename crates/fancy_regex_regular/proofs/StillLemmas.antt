@@ -1,8 +1,8 @@
 -- Where no look-behind steps back over characters, no state does.
-use Rattle.std.proofs.Common.{◌≡◌, ◌∙◌, ℕ, zero, suc, ◌+◌, ◌-◌, Bool, true, false, not, List, [], ◌∷◌, ◌++◌, length, Option, Some, None, get_or, if◌then◌else◌, refl, sym, ap, subst, arith}
+use Rattle.std.proofs.Common.{◌≡◌, ◌∙◌, ℕ, zero, suc, ◌+◌, ◌-◌, Bool, true, false, true≢false, not, List, [], ◌∷◌, ◌++◌, length, Option, Some, None, get_or, if◌then◌else◌, refl, sym, ap, subst, arith}
 use Rattle.std.proofs.lemmas.Bool.{eqb-true}
 use Rattle.std.specs.Prelude.{slice_set, ◌==◌}
-use Rattle.fancy_regex_tree.specs.Tree.{Tree, Trees, Text, empty, any, assertion, general_newline, literal, concat, alt, group, look_around, repeat, delegate, atomic_group, conditional, verb, continue, define_group, subroutine_call, no_trees, more_trees}
+use Rattle.fancy_regex_tree.specs.Tree.{Tree, Trees, Text, empty, any, assertion, general_newline, literal, concat, alt, group, look_around, repeat, delegate, atomic_group, conditional, verb, keep_out, continue, define_group, subroutine_call, no_trees, more_trees}
 use Rattle.fancy_regex_tree.specs.declared.expr.Assertion.{Assertion}
 use Rattle.fancy_regex_tree.specs.declared.expr.Assertion.TheVariants.{EndTextIgnoreTrailingNewlines}
 use Rattle.fancy_regex_tree.specs.declared.expr.LookAround.{LookAround}
@@ -279,45 +279,46 @@ module _ (unicode : Bool) (groups : List Tree) (called : ℕ → Re) (call : ℕ
   mutual
     unfolding re_of around each_around steps_of each_steps steps_in each_steps_in
 
-    pub still_tree : (n k : ℕ) (t : Tree) → IsRegular known t → steps_in groups call t ≡ 0 → NoSteps (re_of unicode groups called n k t)
-    still_tree n k empty p none = tt
-    still_tree n k (any newline crlf) p none = tt
-    still_tree n k (literal val casei) p none = tt
-    still_tree n k (delegate class casei) p none = tt
-    still_tree n k (general_newline wide) p none = newline_none wide
-    still_tree n k (assertion a) p none = served_none a
-    still_tree n k (concat ts) p none = still_row n k ts p none
-    still_tree n k (alt ts) p none = still_branches n k ts p.1 none
-    still_tree n k (group t) p none = still_tree (n + 1) k t p none
-    still_tree n k (look_around t how) p none =
-        still_around n k how t p (still_tree n k t p (omega (arith, none))) (omega (arith, none)) (omega (arith, none))
-    still_tree n k (atomic_group t) p none = still_tree n k t p none
-    still_tree n k (repeat t lo hi greedy) p none = unless_none (has_no_iteration lo hi) _ (λ made. still_tree n k t (p made) none)
-    still_tree n k (conditional c a b) p none = (
-      still_tree n k c p.0 (omega (arith, none)),
+    pub still_tree : (resets : Bool) (n k : ℕ) (t : Tree) → IsRegular resets known t → steps_in groups call t ≡ 0 → NoSteps (re_of unicode groups called n k t)
+    still_tree resets n k empty p none = tt
+    still_tree resets n k (any newline crlf) p none = tt
+    still_tree resets n k (literal val casei) p none = tt
+    still_tree resets n k (delegate class casei) p none = tt
+    still_tree resets n k (general_newline wide) p none = newline_none wide
+    still_tree resets n k (assertion a) p none = served_none a
+    still_tree resets n k (concat ts) p none = still_row resets n k ts p none
+    still_tree resets n k (alt ts) p none = still_branches resets n k ts p.1 none
+    still_tree resets n k (group t) p none = still_tree resets (n + 1) k t p none
+    still_tree resets n k (look_around t how) p none =
+        still_around n k how t p (still_tree false n k t p (omega (arith, none))) (omega (arith, none)) (omega (arith, none))
+    still_tree resets n k (atomic_group t) p none = still_tree resets n k t p none
+    still_tree resets n k (repeat t lo hi greedy) p none = unless_none (has_no_iteration lo hi) _ (λ made. still_tree resets n k t (p made) none)
+    still_tree resets n k (conditional c a b) p none = (
+      still_tree resets n k c p.0 (omega (arith, none)),
       (
-        still_tree (n + group_count c) (k + length (classes c)) a p.1.0 (omega (arith, none)),
-        still_tree (n + group_count c + group_count a) (k + length (classes c) + length (classes a)) b p.1.1 (omega (arith, none)),
+        still_tree resets (n + group_count c) (k + length (classes c)) a p.1.0 (omega (arith, none)),
+        still_tree resets (n + group_count c + group_count a) (k + length (classes c) + length (classes a)) b p.1.1 (omega (arith, none)),
       ),
     )
-    still_tree n k (define_group t) p none = tt
-    still_tree n k (subroutine_call j) p none = call_still j p none
-    still_tree n k (verb v) p none = tt
-    still_tree n k continue p none = tt
-    still_tree n k _ p none = absurd p
+    still_tree resets n k (define_group t) p none = tt
+    still_tree resets n k (subroutine_call j) p none = call_still j p none
+    still_tree resets n k (verb v) p none = tt
+    still_tree resets n k keep_out p none = tt
+    still_tree resets n k continue p none = tt
+    still_tree resets n k _ p none = absurd p
 
-    still_row : (n k : ℕ) (ts : Trees) → AreRegular known ts → each_steps_in groups call ts ≡ 0 → NoSteps (row_of unicode groups called n k ts)
-    still_row n k no_trees p none = tt
-    still_row n k (more_trees t ts) p none =
-        (still_tree n k t p.0 (omega (arith, none)), still_row (n + group_count t) (k + length (classes t)) ts p.1 (omega (arith, none)))
+    still_row : (resets : Bool) (n k : ℕ) (ts : Trees) → AreRegular resets known ts → each_steps_in groups call ts ≡ 0 → NoSteps (row_of unicode groups called n k ts)
+    still_row resets n k no_trees p none = tt
+    still_row resets n k (more_trees t ts) p none =
+        (still_tree resets n k t p.0 (omega (arith, none)), still_row resets (n + group_count t) (k + length (classes t)) ts p.1 (omega (arith, none)))
 
-    still_branches : (n k : ℕ) (ts : Trees) → AreRegular known ts → each_steps_in groups call ts ≡ 0 → NoSteps (branches_of unicode groups called n k ts)
-    still_branches n k no_trees p none = tt
-    still_branches n k (more_trees t no_trees) p none = still_tree n k t p.0 (omega (arith, none))
-    still_branches n k (more_trees t (more_trees u us)) p none =
-        (still_tree n k t p.0 (omega (arith, none)), still_branches (n + group_count t) (k + length (classes t)) (more_trees u us) p.1 (omega (arith, none)))
+    still_branches : (resets : Bool) (n k : ℕ) (ts : Trees) → AreRegular resets known ts → each_steps_in groups call ts ≡ 0 → NoSteps (branches_of unicode groups called n k ts)
+    still_branches resets n k no_trees p none = tt
+    still_branches resets n k (more_trees t no_trees) p none = still_tree resets n k t p.0 (omega (arith, none))
+    still_branches resets n k (more_trees t (more_trees u us)) p none =
+        (still_tree resets n k t p.0 (omega (arith, none)), still_branches resets (n + group_count t) (k + length (classes t)) (more_trees u us) p.1 (omega (arith, none)))
 
-    still_around : (n k : ℕ) (how : LookAround) (t : Tree) → IsRegular known t → NoSteps (re_of unicode groups called n k t) → steps_in groups call t ≡ 0
+    still_around : (n k : ℕ) (how : LookAround) (t : Tree) → IsRegular false known t → NoSteps (re_of unicode groups called n k t) → steps_in groups call t ≡ 0
         → stepping_weight groups how t ≡ 0 → NoSteps (around unicode groups called n k how (re_of unicode groups called n k t) t)
     still_around n k L.LookAhead (alt ts) p body inside none = (refl, body)
     still_around n k L.LookAheadNeg (alt ts) p body inside none = (refl, body)
@@ -384,23 +385,24 @@ module _ (unicode : Bool) (groups : List Tree) (called : ℕ → Re) (call : ℕ
     still_around n k L.LookAheadNeg (repeat t lo hi greedy) p body inside none = (refl, body)
     still_around n k L.LookBehind (repeat t lo hi greedy) p body inside none = (none, body)
     still_around n k L.LookBehindNeg (repeat t lo hi greedy) p body inside none = (none, body)
+    still_around n k how keep_out p body inside none = absurd (true≢false (sym p))
     still_around n k how _ p body inside none = absurd p
 
-    each_still_all : (n k : ℕ) (how : LookAround) → ((t : Tree) → stepping_weight groups how t ≡ steps_of groups t) → (ts : Trees) → AreRegular known ts
+    each_still_all : (n k : ℕ) (how : LookAround) → ((t : Tree) → stepping_weight groups how t ≡ steps_of groups t) → (ts : Trees) → AreRegular false known ts
         → each_steps_in groups call ts ≡ 0 → each_steps groups ts ≡ 0 → NoSteps (re.cats (each_around unicode groups called n k how ts))
     each_still_all n k how is no_trees p inside none = tt
     each_still_all n k how is (more_trees t ts) p inside none = (
-      still_around n k how t p.0 (still_tree n k t p.0 (omega (arith, inside))) (omega (arith, inside)) (omega (arith, none, is t)),
+      still_around n k how t p.0 (still_tree false n k t p.0 (omega (arith, inside))) (omega (arith, inside)) (omega (arith, none, is t)),
       each_still_all (n + group_count t) (k + length (classes t)) how is ts p.1 (omega (arith, inside)) (omega (arith, none)),
     )
 
-    each_still_one : (n k : ℕ) (how : LookAround) → ((t : Tree) → stepping_weight groups how t ≡ steps_of groups t) → (ts : Trees) → AreRegular known ts
+    each_still_one : (n k : ℕ) (how : LookAround) → ((t : Tree) → stepping_weight groups how t ≡ steps_of groups t) → (ts : Trees) → AreRegular false known ts
         → each_steps_in groups call ts ≡ 0 → each_steps groups ts ≡ 0 → NoSteps (re.alts (each_around unicode groups called n k how ts))
     each_still_one n k how is no_trees p inside none = tt
     each_still_one n k how is (more_trees t no_trees) p inside none =
-        still_around n k how t p.0 (still_tree n k t p.0 (omega (arith, inside))) (omega (arith, inside)) (omega (arith, none, is t))
+        still_around n k how t p.0 (still_tree false n k t p.0 (omega (arith, inside))) (omega (arith, inside)) (omega (arith, none, is t))
     each_still_one n k how is (more_trees t (more_trees u us)) p inside none = (
-      still_around n k how t p.0 (still_tree n k t p.0 (omega (arith, inside))) (omega (arith, inside)) (omega (arith, none, is t)),
+      still_around n k how t p.0 (still_tree false n k t p.0 (omega (arith, inside))) (omega (arith, inside)) (omega (arith, none, is t)),
       each_still_one (n + group_count t) (k + length (classes t)) how is (more_trees u us) p.1 (omega (arith, inside)) (omega (arith, none)),
     )
 
@@ -420,21 +422,21 @@ module _ (unicode : Bool) (groups : List Tree) (cs : List (Text × Bool)) where
       let called = found.2.0 in
       subst NoSteps (sym found.2.3)
       (still_tree unicode groups called (call_steps groups depth) (λ i. IsCalled groups unicode cs depth i (called i))
-      (λ i known still. call_still depth i (called i) known still) (j + 1) found.2.1 found.0 found.2.2
+      (λ i known still. call_still depth i (called i) known still) false (j + 1) found.2.1 found.0 found.2.2
       (sym (body_steps depth j found.0 found.1) ∙ none))
 
-  whole_still : (depth : ℕ) (called : ℕ → Re) (n k : ℕ) (t : Tree) → IsRegular (λ j. IsCalled groups unicode cs depth j (called j)) t
+  whole_still : (depth : ℕ) (called : ℕ → Re) (resets : Bool) (n k : ℕ) (t : Tree) → IsRegular resets (λ j. IsCalled groups unicode cs depth j (called j)) t
       → steps_in groups (call_steps groups depth) t ≡ 0 → NoSteps (re_of unicode groups called n k t)
-  whole_still depth called n k t p none =
+  whole_still depth called resets n k t p none =
       still_tree unicode groups called (call_steps groups depth) (λ j. IsCalled groups unicode cs depth j (called j))
-      (λ j is still. call_still depth j (called j) is still) n k t p none
+      (λ j is still. call_still depth j (called j) is still) resets n k t p none
 
 -- where no look-behind steps back, a search asks about nothing before its first start
 module _ (regular : Regular) (input : RunInput) (pattern : Pattern) (is : IsRegularOf regular pattern) where
   still_asked : written_steps pattern.groups pattern.tree ≡ 0 → lowest_asked regular input ≡ input.first
   still_asked none =
       let tree =
-      whole_still regular.unicode pattern.groups is.states.all_classes (greatest_nesting (length pattern.groups)) is.states.called pattern.first_group is.states.base
+      whole_still regular.unicode pattern.groups is.states.all_classes (greatest_nesting (length pattern.groups)) is.states.called regular.resets_start pattern.first_group is.states.base
       pattern.tree is.states.regular none in
       let still = emitted_still (re_of regular.unicode pattern.groups is.states.called pattern.first_group is.states.base pattern.tree) tree regular.table.states.items regular.entry
       is.states.program in

@@ -3,8 +3,10 @@ pub mod Continues
 pub mod Weights
 pub mod Starts
 pub mod Regulars
+pub mod Attempts
 pub mod Ends
 pub mod Inputs
+pub mod Walks
 pub mod Kept
 pub mod KeptProps
 pub mod Supported

@@ -18,7 +18,7 @@ use Rattle.fancy_regex_regular.specs.declared.regular.Regular.{Regular}
 
 -- it has the states and matchers of the pattern, and slots for its groups
 pub record IsRegularOf (regular : Regular) (pattern : Pattern) : Type 0 where
-  pub states : AreRegularStates regular.unicode regular.table.states.items regular.entry regular.matchers.items pattern
+  pub states : AreRegularStates regular.unicode regular.resets_start regular.table.states.items regular.entry regular.matchers.items pattern
   pub groups : regular.groups ≡ length pattern.groups
   pub whole : regular.whole ≡ not (pattern.first_group == 0)
 
@@ -84,6 +84,12 @@ lowest_seen regular input pattern = if written_steps pattern.groups pattern.tree
 abbrev pub LooksAtMost : Regular → List ℕ → RunInput → ℕ → ℕ → Type 0
 LooksAtMost regular text input old new = (pattern : Pattern) → IsRegularOf regular pattern
     → new ≤ old + 4 * tree_state_weight pattern.groups pattern.tree * (length text - lowest_seen regular input pattern + 1)
+
+-- the same of a search for groups
+abbrev pub LooksForGroupsAtMost : Regular → List ℕ → RunInput → ℕ → ℕ → Type 0
+LooksForGroupsAtMost regular text input old new = (pattern : Pattern) → IsRegularOf regular pattern
+    → new ≤ old + 12 * (tree_state_weight pattern.groups pattern.tree * tree_state_weight pattern.groups pattern.tree)
+    * (length text - lowest_seen regular input pattern + 1)
 
 -- the starts of a search that have no way, where this was found
 abbrev pub starts_without : List ℕ → RunInput → Option (ℕ × ℕ) → ℕ

@@ -1,7 +1,7 @@
 -- How heavy a pattern is as states: its weight, but that `\R`, `\Z` and a conditional become several states, and a look-behind has one
 -- more for each character that it steps back over.
 use Rattle.std.specs.Prelude.{ℕ, zero, suc, length, Some, None, ◌+◌, ◌*◌, max, Bool, true, false, if◌then◌else◌, List}
-use Rattle.fancy_regex_tree.specs.Tree.{Tree, Trees, any, assertion, general_newline, literal, delegate, concat, alt, group, look_around, repeat, atomic_group, conditional, subroutine_call, no_trees, more_trees}
+use Rattle.fancy_regex_tree.specs.Tree.{Tree, Trees, any, assertion, general_newline, literal, delegate, concat, alt, group, look_around, repeat, atomic_group, conditional, keep_out, subroutine_call, no_trees, more_trees}
 use Rattle.fancy_regex_tree.specs.declared.expr.Assertion.{Assertion}
 use Rattle.fancy_regex_tree.specs.declared.expr.Assertion.TheVariants.{EndTextIgnoreTrailingNewlines}
 use Rattle.fancy_regex_tree.specs.declared.expr.LookAround.{LookAround}
@@ -77,6 +77,7 @@ module _ (groups : List Tree) where
     state_weight call (atomic_group t) = 1 + state_weight call t
     state_weight call (conditional c a b) = 2 + (state_weight call c + (state_weight call a + state_weight call b))
     state_weight call (subroutine_call j) = call j
+    state_weight call keep_out = 3
     state_weight call _ = 1
 
     pub state_weights : (ℕ → ℕ) → Trees → ℕ

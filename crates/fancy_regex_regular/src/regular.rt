@@ -1,8 +1,7 @@
 //! Compiled regular patterns, and their searches.
 
 ghost use Rattle.std.specs.Prelude.{◌≡◌, ◌+◌, ◌-◌, ◌*◌, ◌^◌, ◌<◌, ◌≤◌, ◌↔◌, Bool, List, ℕ, None, true, false, length, min, replicate, IfErr, IfOk, IfSome, IsSome, OnOk, IsCharBoundary, option_map, slice_set};
-ghost use Rattle.fancy_regex_tree.specs.Tree.{Tree, tree_of};
-ghost use Rattle.fancy_regex_linear.specs.Easy.{found_slots, found_at};
+ghost use Rattle.fancy_regex_tree.specs.Tree.{Tree};
 ghost use Rattle.fancy_regex_parts.specs.Tables.{IsTable};
 ghost use Rattle.fancy_regex_regular.specs.Continues.{AskNoPlace};
 ghost use Rattle.fancy_regex_regular.specs.TableProps.{place_prop, table_prop};
@@ -11,10 +10,11 @@ ghost use Rattle.fancy_regex_regular.specs.Starts.{last_start as last_start_of};
 use crate::continues::ask_for_place;
 use crate::longest::longest_end;
 use crate::memory::{Kept, RegularMemory};
+use crate::walks::{told_start, walk_along};
 use fancy_regex_class::{CharClassMatcher, Counted, RunInput, Steps};
 use fancy_regex_info::{CompileError, CompileOptions, Info};
 use fancy_regex_linear::RegularStates;
-use fancy_regex_parts::{EndRange, PartContext, PartTable, find, walk};
+use fancy_regex_parts::{EndRange, PartContext, PartTable, find};
 use fancy_regex_states::Rules;
 use std::alloc::{AllocError, Global};
 
@@ -36,6 +36,8 @@ pub struct Regular {
     asks_for_groups: bool,
     /// Whether a state is `\G`, so that what searches find out depends on where it holds.
     continues: bool,
+    /// Whether a match may begin elsewhere than the attempt that finds it, since `\K` stands in the pattern.
+    resets_start: bool,
     ghost right: { IsTable table } by { table_prop table },
     ghost inside: { entry < length table.states.items },
     ghost placeless: { continues ≡ false ↔ AskNoPlace table.states.items } by { place_prop continues table },
@@ -54,31 +56,36 @@ impl Drop for Regular {
             longest: _longest,
             asks_for_groups: _asks_for_groups,
             continues: _continues,
+            resets_start: _resets_start,
         } = self;
     }
 }
 
 impl Regular {
     ghost use Rattle.fancy_regex_linear.specs.Plain.{IsRegular};
+    ghost use Rattle.fancy_regex_linear.specs.Calls.{has_own_span};
     ghost use Rattle.fancy_regex_linear.specs.CalledClasses.{IsWrittenCause};
     ghost use Rattle.fancy_regex_regular.specs.Supported.{IsSupported, IsSupportedOrShort};
-    ghost use Rattle.fancy_regex_regular.specs.Regulars.{IsRegularOf, IsContextOf, IsSpan, IsSpanOf, IsSlots, IsSlotsOf, LooksFrom, LooksForGroupsFrom, LooksAtMost, continue_place, lowest_asked, starts_without};
+    ghost use Rattle.fancy_regex_regular.specs.Regulars.{IsRegularOf, IsContextOf, IsSpan, IsSlots, LooksFrom, LooksForGroupsFrom, LooksAtMost, LooksForGroupsAtMost, continue_place, lowest_asked, starts_without};
+    ghost use Rattle.fancy_regex_regular.specs.Attempts.{IsAttempt, IsAttemptOf};
+    ghost use Rattle.fancy_regex_regular.specs.Walks.{CanWalk, reset_start, told_slots};
     ghost use Rattle.fancy_regex_regular.specs.Kept.{IsKeptOf, IsReady};
     ghost use Rattle.fancy_regex_regular.specs.Inputs.{MemoryServes};
     ghost use Rattle.fancy_regex_regular.specs.Iterations.{LooksOn, MayServe, IsPaidWithin, paid_before, paid_by};
     ghost use Rattle.fancy_regex_info.specs.Analysis.{analysis};
     ghost use Rattle.fancy_regex_info.specs.Infos.{info_of};
-    ghost use Rattle.fancy_regex_info.specs.declared.info.Info.{out-Info};
     ghost use Rattle.fancy_regex_info.specs.Views.{pattern_in};
 
     /// Whether an analyzed pattern becomes states with parts. Its weight is at most 4,000 then, each call counted as the body of its group
     /// and twice the depth of that body, and it has no more than characters, `\R`, `\G`, `(*FAIL)`, assertions, definitions, look-arounds,
-    /// groups, atomic groups, conditionals, alternations and repeats of these, and calls of groups of these that do not recur and nest at
-    /// most 18 deep. The error is want of memory, only where the tree is not regular by itself.
+    /// groups, atomic groups, conditionals, alternations and repeats of these, calls of groups of these that do not recur and nest at most
+    /// 18 deep, and `\K`, but not in a look-around nor in a group that is called, and only where the tree does not write group 0 itself.
+    /// The error is want of memory, only where the tree is not regular by itself.
     pub fn supports(alloc: Global, info: &Info<'_>) -> Result<bool, AllocError>
         ensures exact { IfOk result (λ is. (explicit : Bool) (t : Tree) → info_of info.now ≡ analysis explicit t
             → (is ≡ true ↔ IsSupported (pattern_in explicit t))) }
-        ensures calls { IfErr result (λ _. IsRegular (λ j. ⊥) (tree_of (out-Info info.now).expr.now) → ⊥) }
+        ensures calls { IfErr result (λ _. (explicit : Bool) (t : Tree) → info_of info.now ≡ analysis explicit t
+            → IsRegular (has_own_span (pattern_in explicit t)) (λ j. ⊥) t → ⊥) }
     {
         RegularStates::are_made_for(alloc, info)
     }
@@ -109,6 +116,7 @@ impl Regular {
             states,
             entry,
             matchers,
+            resets_start,
         } = made;
         if entry >= states.len() {
             return Ok(None);
@@ -126,6 +134,7 @@ impl Regular {
                 whole: info.start_group() != 0,
                 unicode: options.unicode,
                 longest: options.leftmost_longest,
+                resets_start,
             })),
             None => Ok(None),
         }
@@ -135,6 +144,14 @@ impl Regular {
     /// it. No clause says so.
     pub fn asks_for_groups(&self) -> bool {
         self.asks_for_groups
+    }
+
+    /// Whether a match may begin elsewhere than the attempt that finds it, since `\K` stands in the pattern: then a search for its span
+    /// walks along it too.
+    pub fn resets_start(&self) -> bool
+        ensures { result ≡ self.now.resets_start }
+    {
+        self.resets_start
     }
 
     /// Searches the text, and answers the capture groups of the match, the first or the longest: two byte offsets for each group, both
@@ -179,99 +196,13 @@ impl Regular {
         ensures counts { steps.old ≤ steps.new }
         ensures kept { IsKeptOf self.now text.now memory.new }
     {
-        if self.longest {
-            self.search_longest(alloc, text, input, steps, memory)
-        } else {
-            self.search_first(alloc, text, input, steps, memory)
-        }
-    }
-
-    /// The capture groups of the longest match, as `search_again`.
-    fn search_longest(
-        &self,
-        alloc: Global,
-        text: &str,
-        input: &RunInput,
-        steps: &mut Steps,
-        memory: &mut RegularMemory,
-    ) -> Result<Option<Vec<usize>>, AllocError>
-        requires first { IsCharBoundary text.now input.now.first }
-        requires range { input.now.range.end ≤ length text.now }
-        requires kept { IsKeptOf self.now text.now memory.old }
-        requires longest { self.now.longest ≡ true }
-        ensures answer { IfOk result (λ found. IsSlots self.now text.now input.now (option_map (λ v. v.items) found)) }
-        ensures anew { memory.old.kept ≡ None → input.now.first ≤ input.now.range.end
-            → memory.new.parts.recall.base ≡ lowest_asked self.now input.now }
-        ensures counts { steps.old ≤ steps.new }
-        ensures kept { IsKeptOf self.now text.now memory.new }
-    {
-        let found = self.find_span_again(text, input, steps, memory)?;
-        let Some((start, end)) = found else {
-            return Ok(None);
-        };
-        let mut written = unset_slots(alloc, self.groups)?;
-        let context = self.context(input, end);
-        memory
-            .farther
-            .restart(&context, self.table.lowest(self.entry, start));
-        // Read so that the proof knows that the counter is a `u64`, which no look lowers.
-        let _before = steps.count();
-        let mut looked = Counted::new(text, steps);
-        walk(
-            &context,
-            &mut looked,
-            &mut memory.farther,
-            &mut memory.walked,
-            start,
-            &mut written,
-        )?;
-        let places = self.places(written, start, end);
-        Ok(Some(places))
-    }
-
-    /// The capture groups of the first match, also where the longest is wanted, as `search_again`.
-    fn search_first(
-        &self,
-        alloc: Global,
-        text: &str,
-        input: &RunInput,
-        steps: &mut Steps,
-        memory: &mut RegularMemory,
-    ) -> Result<Option<Vec<usize>>, AllocError>
-        requires first { IsCharBoundary text.now input.now.first }
-        requires range { input.now.range.end ≤ length text.now }
-        requires kept { IsKeptOf self.now text.now memory.old }
-        ensures answer { IfOk result (λ found. IsSlotsOf false self.now text.now input.now (option_map (λ v. v.items) found)) }
-        ensures at_most { OnOk result (input.now.first ≤ input.now.range.end
-            → LooksForGroupsFrom self.now text.now memory.new.parts.recall.base steps.old steps.new) }
-        ensures anew { memory.old.kept ≡ None → input.now.first ≤ input.now.range.end
-            → memory.new.parts.recall.base ≡ lowest_asked self.now input.now }
-        ensures counts { steps.old ≤ steps.new }
-        ensures kept { IsKeptOf self.now text.now memory.new }
-    {
-        if input.first > input.range.end {
-            return Ok(None);
-        }
-        // Read so that the proof knows that the counter is a `u64`, which no look lowers.
-        let _before = steps.count();
-        let context = self.context(input, 0);
-        self.begin(&context, input, memory);
-        let mut looked = Counted::new(text, steps);
-        let last = last_start(input);
-        let found = find(&context, &mut looked, &mut memory.parts, input.first, last)?;
+        let found = self.find_attempt(text, input, steps, memory)?;
         let Some((start, end)) = found else {
             return Ok(None);
         };
         let mut slots = unset_slots(alloc, self.groups)?;
-        walk(
-            &context,
-            &mut looked,
-            &mut memory.parts,
-            &mut memory.walked,
-            start,
-            &mut slots,
-        )?;
-        Ok(Some(self.places(slots, start, end)))
+        walk_along(self, text, input, steps, memory, start, end, &mut slots)?;
+        Ok(Some(self.places(text, slots, start, end)))
     }
 
     /// Where the match of a search, the first or the longest, starts and ends, as byte offsets; `None` if there is none. `steps` counts the
@@ -279,8 +210,9 @@ impl Regular {
     /// place from the first start to the end of the text, and for four more before it for each character that look-behinds reach back,
     /// also where memory runs out; here `\R` weighs 16, `\Z` 7 and a look-behind more by the characters that it steps back over, since
     /// they are several states. Where there is an answer it grows by at least one for each start that has no match, up to the one that is
-    /// found, unless it comes to the last `u64`. The memory may have been used by other searches before, of this pattern or another. The
-    /// error is want of memory; the memory may be used again.
+    /// found, unless it comes to the last `u64`. Where `\K` stands in the pattern it grows as in a search for groups instead, where memory
+    /// suffices. The memory may have been used by other searches before, of this pattern or another. The error is want of memory; the
+    /// memory may be used again.
     pub fn find_span_in(
         &self,
         text: &str,
@@ -291,8 +223,10 @@ impl Regular {
         requires first { IsCharBoundary text.now input.now.first }
         requires range { input.now.range.end ≤ length text.now }
         ensures answer { IfOk result (IsSpan self.now text.now input.now) }
-        ensures at_most { self.now.longest ≡ false → LooksAtMost self.now text.now input.now steps.old steps.new }
-        ensures at_least { IfOk result (λ found. input.now.first ≤ input.now.range.end
+        ensures at_most { self.now.longest ≡ false → self.now.resets_start ≡ false
+            → LooksAtMost self.now text.now input.now steps.old steps.new }
+        ensures walked { self.now.longest ≡ false → OnOk result (LooksForGroupsAtMost self.now text.now input.now steps.old steps.new) }
+        ensures at_least { IfOk result (λ found. self.now.resets_start ≡ false → input.now.first ≤ input.now.range.end
             → min (steps.old + starts_without text.now input.now found) (2 ^ 64 - 1) ≤ steps.new) }
         ensures counts { steps.old ≤ steps.new }
     {
@@ -308,7 +242,8 @@ impl Regular {
     /// longest match only what the search for its start finds out is kept. So where memory suffices, the first match is wanted and each
     /// search of an iteration has the end and the flags of the one before and begins no earlier, and `\G` does not stand in the pattern or
     /// holds where it did, all of them together look at each place of the text at most as often as the states weigh, and once more than
-    /// what is due for the first state for each start (`shared`, `paid`, `serves`).
+    /// what is due for the first state for each start (`shared`, `paid`, `serves`). Where `\K` stands in the pattern each search walks
+    /// along its match besides.
     pub fn find_span_again(
         &self,
         text: &str,
@@ -320,6 +255,48 @@ impl Regular {
         requires range { input.now.range.end ≤ length text.now }
         requires kept { IsKeptOf self.now text.now memory.old }
         ensures answer { IfOk result (IsSpan self.now text.now input.now) }
+        ensures kept { IsKeptOf self.now text.now memory.new }
+        ensures at_most { self.now.longest ≡ false → self.now.resets_start ≡ false → input.now.first ≤ input.now.range.end
+            → LooksFrom self.now text.now memory.new.parts.recall.base steps.old steps.new }
+        ensures walked { self.now.longest ≡ false → OnOk result (input.now.first ≤ input.now.range.end
+            → LooksForGroupsFrom self.now text.now memory.new.parts.recall.base steps.old steps.new) }
+        ensures anew { memory.old.kept ≡ None → input.now.first ≤ input.now.range.end
+            → memory.new.parts.recall.base ≡ lowest_asked self.now input.now }
+        ensures shared { IfOk result (λ found. self.now.longest ≡ false → self.now.resets_start ≡ false
+            → input.now.first ≤ input.now.range.end
+            → LooksOn self.now input.now memory.old memory.new steps.old steps.new found) }
+        ensures paid { input.now.first ≤ input.now.range.end → IsPaidWithin self.now text.now memory.new.parts }
+        ensures serves { input.now.first ≤ input.now.range.end → MemoryServes memory.new.kept input.now
+            (continue_place self.now input.now) (lowest_asked self.now input.now) }
+        ensures at_least { IfOk result (λ found. self.now.resets_start ≡ false → input.now.first ≤ input.now.range.end
+            → min (steps.old + starts_without text.now input.now found) (2 ^ 64 - 1) ≤ steps.new) }
+        ensures counts { steps.old ≤ steps.new }
+        ensures start { IfOk result (λ found. IfSome found (λ span. IsCharBoundary text.now span.0)) }
+    {
+        let found = self.find_attempt(text, input, steps, memory)?;
+        if !self.resets_start {
+            return Ok(found);
+        }
+        let Some((start, end)) = found else {
+            return Ok(None);
+        };
+        let mut slots = [usize::MAX; 2];
+        walk_along(self, text, input, steps, memory, start, end, &mut slots)?;
+        Ok(Some((told_start(text, start, &slots), end)))
+    }
+
+    /// Where the attempt starts and ends that finds the match, as `find_span_again` of a pattern without `\K`.
+    fn find_attempt(
+        &self,
+        text: &str,
+        input: &RunInput,
+        steps: &mut Steps,
+        memory: &mut RegularMemory,
+    ) -> Result<Option<(usize, usize)>, AllocError>
+        requires first { IsCharBoundary text.now input.now.first }
+        requires range { input.now.range.end ≤ length text.now }
+        requires kept { IsKeptOf self.now text.now memory.old }
+        ensures answer { IfOk result (IsAttempt self.now text.now input.now) }
         ensures kept { IsKeptOf self.now text.now memory.new }
         ensures at_most { self.now.longest ≡ false → input.now.first ≤ input.now.range.end
             → LooksFrom self.now text.now memory.new.parts.recall.base steps.old steps.new }
@@ -333,7 +310,8 @@ impl Regular {
         ensures at_least { IfOk result (λ found. input.now.first ≤ input.now.range.end
             → min (steps.old + starts_without text.now input.now found) (2 ^ 64 - 1) ≤ steps.new) }
         ensures counts { steps.old ≤ steps.new }
-        ensures start { IfOk result (λ found. IfSome found (λ span. IsCharBoundary text.now span.0)) }
+        ensures walks { IfOk result (λ found. IfSome found (λ span. CanWalk self.now text.now input.now memory.new span.0)) }
+        ensures inside { IfOk result (λ found. IfSome found (λ _. input.now.first ≤ input.now.range.end)) }
     {
         let first = self.find_first(text, input, steps, memory)?;
         let Some((start, end)) = first else {
@@ -350,7 +328,7 @@ impl Regular {
         Ok(Some((start, last)))
     }
 
-    /// Where the first match starts and ends, also where the longest is wanted, as `find_span_again`.
+    /// Where the attempt starts and ends that finds the first match, also where the longest is wanted, as `find_attempt`.
     fn find_first(
         &self,
         text: &str,
@@ -361,7 +339,7 @@ impl Regular {
         requires first { IsCharBoundary text.now input.now.first }
         requires range { input.now.range.end ≤ length text.now }
         requires kept { IsKeptOf self.now text.now memory.old }
-        ensures answer { IfOk result (IsSpanOf false self.now text.now input.now) }
+        ensures answer { IfOk result (IsAttemptOf false self.now text.now input.now) }
         ensures kept { IsKeptOf self.now text.now memory.new }
         ensures at_most { input.now.first ≤ input.now.range.end
             → LooksFrom self.now text.now memory.new.parts.recall.base steps.old steps.new }
@@ -375,7 +353,8 @@ impl Regular {
         ensures at_least { IfOk result (λ found. input.now.first ≤ input.now.range.end
             → min (steps.old + starts_without text.now input.now found) (2 ^ 64 - 1) ≤ steps.new) }
         ensures counts { steps.old ≤ steps.new }
-        ensures start { IfOk result (λ found. IfSome found (λ span. IsCharBoundary text.now span.0)) }
+        ensures walks { IfOk result (λ found. IfSome found (λ span. CanWalk self.now text.now input.now memory.new span.0)) }
+        ensures inside { IfOk result (λ found. IfSome found (λ _. input.now.first ≤ input.now.range.end)) }
     {
         if input.first > input.range.end {
             return Ok(None);
@@ -447,12 +426,14 @@ impl Regular {
         }
     }
 
-    /// The byte offsets of the groups of a match with these slots.
-    fn places(&self, mut slots: Vec<usize>, start: usize, end: usize) -> Vec<usize>
-        ensures { result.items ≡ found_slots self.now.whole (found_at start end slots.items) }
+    /// The byte offsets of the groups of a match whose attempt is from `start` to `end`, where the walk along it left these slots.
+    fn places(&self, text: &str, mut slots: Vec<usize>, start: usize, end: usize) -> Vec<usize>
+        ensures { (self.now.whole ≡ true → IsCharBoundary text.now (reset_start start slots.items))
+            → result.items ≡ told_slots self.now.whole start end slots.items }
     {
         if self.whole {
-            put(&mut slots, 0, start);
+            let told = told_start(text, start, &slots);
+            put(&mut slots, 0, told);
             put(&mut slots, 1, end);
         }
         slots

@@ -91,9 +91,9 @@ impl Regex {
     /// assertions but `\Z`, groups, alternations and repeats of these. Or the pattern's weight (about its length, with counted repeats and
     /// calls written out) is at most 4,000, and it has besides no more than look-arounds, atomic groups, conditionals whose condition is
     /// such a pattern, definitions, calls that do not recur and nest at most 18 deep, `\R`, `\Z`, `\G`, half boundaries, starts of lines
-    /// of Oniguruma mode and `(*FAIL)`. So a pattern with a reference, a call that recurs, a condition on a group or `\K` is not linear,
-    /// unless these stand in a definition and are not called, or in what is repeated no times. The answer depends on the pattern and its
-    /// options alone, and on no text. It is the same for the first match and for the longest.
+    /// of Oniguruma mode, `(*FAIL)`, and `\K`, but not in a group that is called. So a pattern with a reference, a call that recurs or a
+    /// condition on a group is not linear, unless these stand in a definition and are not called, or in what is repeated no times. The
+    /// answer depends on the pattern and its options alone, and on no text. It is the same for the first match and for the longest.
     ///
     /// ```
     /// assert!(rt; Regex::new(alloc, r"\b(?>a+)b(?=c)")?.is_linear());

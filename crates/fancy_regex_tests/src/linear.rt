@@ -5,7 +5,7 @@ use std::alloc::Global;
 use std::test::Fail;
 
 /// Patterns, and whether their regexes are linear.
-static PATTERNS: [(&str, bool); 46] = [
+static PATTERNS: [(&str, bool); 47] = [
     ("a+b", true),
     (r"\bfoo\b", true),
     ("(a)(b|c)*", true),
@@ -34,7 +34,8 @@ static PATTERNS: [(&str, bool); 46] = [
     ("(?=(a))b", true),
     ("(?>(a))b", true),
     ("(?:a(?=(b)))", true),
-    (r"\Ka", false),
+    (r"\Ka", true),
+    (r"(a\K)\g<1>", false),
     (r"\Ga", true),
     (r"(?>\G|,)\w(?<!\Ga)", true),
     (r"\G(a)\1", false),

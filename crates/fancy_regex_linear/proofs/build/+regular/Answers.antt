@@ -23,7 +23,7 @@ pub is_regular-returns-then-not-is_empty-clause-other : goal.is_regular-returns-
 is_regular-returns-then-not-is_empty-clause-other t c = λ fails all.
     let e : tree_of c.args.expr.now ≡ alt (all_trees c.deref-then-not-is_empty.result.now) =
     ap tree_of c.in-Alt.is ∙ tree_alt c.in-Alt.children ∙ ap (λ es. alt (all_trees es)) (sym c.deref-then-not-is_empty.ensures.value) in
-    c.are_regular-then-not-is_empty.ensures.other fails (subst (IsRegular (λ j. mark_at c.args.calls.now j ≡ true)) e all).1
+    c.are_regular-then-not-is_empty.ensures.other fails (subst (IsRegular c.args.resets (λ j. mark_at c.args.calls.now j ≡ true)) e all).1
 
 pub is_regular-returns-in-Conditional-clause-regular : goal.is_regular-returns-in-Conditional-clause-regular
 is_regular-returns-in-Conditional-clause-regular t c = λ yes.
@@ -48,19 +48,19 @@ is_regular-returns-in-Conditional-clause-other t c = λ fails all.
     ∙ ap (λ x. conditional (tree_of x) (tree_of c.in-Conditional.true_branch.value) (tree_of c.in-Conditional.false_branch.value)) (sym box_1)
     ∙ ap (λ x. conditional (tree_of c.deref-in-Conditional.result.now) (tree_of x) (tree_of c.in-Conditional.false_branch.value)) (sym box_2)
     ∙ ap (λ x. conditional (tree_of c.deref-in-Conditional.result.now) (tree_of c.deref-in-Conditional-2.result.now) (tree_of x)) (sym box_3) in
-    let parts = subst (IsRegular (λ j. mark_at c.args.calls.now j ≡ true)) e all in
+    let parts = subst (IsRegular c.args.resets (λ j. mark_at c.args.calls.now j ≡ true)) e all in
     three_fail c.is_regular-first.result c.is_regular-yes.result c.is_regular-no.result (sym c.are_all.ensures ∙ fails)
     (λ no. c.is_regular-first.ensures.other no parts.0) (λ no. c.is_regular-yes.ensures.other no parts.1.0) (λ no. c.is_regular-no.ensures.other no parts.1.1)
 
 pub are_regular-loop-i-preserved : goal.are_regular-loop-i-preserved
 are_regular-loop-i-preserved t c =
-    regular_step (λ j. mark_at c.args.calls.now j ≡ true) c.args.children.now c.loop-i.i c.index-children-i.result c.loop-i-test.true c.index-children-i.is c.loop-i.invariant
+    regular_step c.args.resets (λ j. mark_at c.args.calls.now j ≡ true) c.args.children.now c.loop-i.i c.index-children-i.result c.loop-i-test.true c.index-children-i.is c.loop-i.invariant
     (c.is_regular.ensures.regular c.if-not-is_regular.false)
 
 pub are_regular-returns-clause-regular : goal.are_regular-returns-clause-regular
-are_regular-returns-clause-regular t c = λ yes. regular_whole (λ j. mark_at c.args.calls.now j ≡ true) c.args.children.now c.loop-i.i c.loop-i-test.false c.loop-i.invariant
+are_regular-returns-clause-regular t c = λ yes. regular_whole c.args.resets (λ j. mark_at c.args.calls.now j ≡ true) c.args.children.now c.loop-i.i c.loop-i-test.false c.loop-i.invariant
 
 pub are_regular-returns-then-not-is_regular-clause-other : goal.are_regular-returns-then-not-is_regular-clause-other
 are_regular-returns-then-not-is_regular-clause-other t c = λ fails all.
     c.is_regular.ensures.other c.if-not-is_regular.true
-    (regular_at (λ j. mark_at c.args.calls.now j ≡ true) c.args.children.now c.loop-i.i c.index-children-i.result c.loop-i-test.true c.index-children-i.is all)
+    (regular_at c.args.resets (λ j. mark_at c.args.calls.now j ≡ true) c.args.children.now c.loop-i.i c.index-children-i.result c.loop-i-test.true c.index-children-i.is all)

@@ -1,10 +1,10 @@
 use Rattle.std.proofs.Common.{◌≡◌, ◌∙◌, ap, sym, subst, inl, rules}
-use Rattle.fancy_regex_tree.specs.Tree.{tree_of, concat, alt, conditional}
+use Rattle.fancy_regex_tree.specs.Tree.{tree_of, concat, alt, look_around, conditional}
 use Rattle.fancy_regex_linear.specs.CallMarks.{AllMarked}
 use Rattle.fancy_regex_linear.specs.Translation.{all_trees}
-use Rattle.fancy_regex_linear.proofs.ShapeLemmas.{tree_concat, tree_alt, tree_conditional}
-use Rattle.fancy_regex_linear.proofs.CallWeightLemmas.{WeighsOne}
-use Rattle.fancy_regex_linear.proofs.MarkLemmas.{kept_none, kept_both, still_marked, row_begins, row_more, row_ends, row_only, row_only_ends, three_only, other_into}
+use Rattle.fancy_regex_linear.proofs.ShapeLemmas.{tree_concat, tree_alt, tree_look, tree_conditional}
+use Rattle.fancy_regex_linear.proofs.CallWeightLemmas.{CallsNone}
+use Rattle.fancy_regex_linear.proofs.MarkLemmas.{kept_none, kept_both, still_marked, look_marked, row_begins, row_more, row_ends, row_only, row_only_ends, three_only, other_into}
 use Rattle.fancy_regex_linear.proofs.calls.+mark.Goals as goal
 
 pub mark_calls_of-loop-i-init : goal.mark_calls_of-loop-i-init
@@ -56,9 +56,17 @@ mark_calls-returns-in-Alt-clause-only t c = λ j.
     ap tree_of c.in-Alt.is ∙ tree_alt c.in-Alt.children ∙ ap (λ es. alt (all_trees es)) (sym c.deref-in-Alt.ensures.value) in
     rw e (c.mark_calls_of-in-Alt.ensures.only j)
 
+pub mark_calls-returns-in-LookAround-clause-all : goal.mark_calls-returns-in-LookAround-clause-all
+mark_calls-returns-in-LookAround-clause-all t c =
+    let box : c.deref-in-LookAround.result.now ≡ c.in-LookAround.child.value = search rules in
+    let e : tree_of c.args.expr.now ≡ look_around (tree_of c.deref-in-LookAround.result.now) c.in-LookAround.field-1 =
+    ap tree_of c.in-LookAround.is ∙ tree_look c.in-LookAround.child c.in-LookAround.field-1 ∙ ap (λ x. look_around (tree_of x) c.in-LookAround.field-1) (sym box) in
+    subst (AllMarked c.mark_calls-in-LookAround.new.marks) (sym e)
+    (look_marked c.mark_calls-in-LookAround.new.marks (tree_of c.deref-in-LookAround.result.now) c.in-LookAround.field-1 c.mark_calls-in-LookAround.ensures.all)
+
 pub mark_calls-returns-in_default-clause-all : goal.mark_calls-returns-in_default-clause-all
 mark_calls-returns-in_default-clause-all t c =
-    let other : WeighsOne c.args.expr.now = record {
+    let other : CallsNone c.args.expr.now = record {
       concat = c.in_default.not-Concat;
       alt = c.in_default.not-Alt;
       group = c.in_default.not-Group;

@@ -10,13 +10,13 @@ pub returns-then-not-is_empty : goal.returns-then-not-is_empty
 returns-then-not-is_empty c =
     let e : tree_of c.args.expr.now ≡ alt (all_trees c.in-Alt.children.items) = ap tree_of c.in-Alt.is ∙ tree_alt c.in-Alt.children in
     let long : length c.in-Alt.children.items ≡ vec_len c.in-Alt.children = search rules in
-    sym (ap (λ t. regular_by c.args.calls.now t c.args.parts) e
-    ∙ alt_some c.args.calls.now c.in-Alt.children.items c.args.parts (ap (λ (n : ℕ). n == 0) long ∙ sym c.is_empty.ensures ∙ c.if-not-is_empty.true))
+    sym (ap (λ t. regular_by c.args.calls.now c.args.resets t c.args.parts c.args.keep_start) e
+    ∙ alt_some c.args.calls.now c.args.resets c.in-Alt.children.items c.args.parts c.args.keep_start (ap (λ (n : ℕ). n == 0) long ∙ sym c.is_empty.ensures ∙ c.if-not-is_empty.true))
 
 pub returns-else-not-is_empty : goal.returns-else-not-is_empty
 returns-else-not-is_empty c =
     let e : tree_of c.args.expr.now ≡ alt (all_trees c.in-Alt.children.items) = ap tree_of c.in-Alt.is ∙ tree_alt c.in-Alt.children in
     let long : length c.in-Alt.children.items ≡ vec_len c.in-Alt.children = search rules in
     ap not c.if-not-is_empty.false
-    ∙ sym (ap (λ t. regular_by c.args.calls.now t c.args.parts) e
-    ∙ alt_none c.args.calls.now c.in-Alt.children.items c.args.parts (ap (λ (n : ℕ). n == 0) long ∙ sym c.is_empty.ensures ∙ c.if-not-is_empty.false))
+    ∙ sym (ap (λ t. regular_by c.args.calls.now c.args.resets t c.args.parts c.args.keep_start) e
+    ∙ alt_none c.args.calls.now c.args.resets c.in-Alt.children.items c.args.parts c.args.keep_start (ap (λ (n : ℕ). n == 0) long ∙ sym c.is_empty.ensures ∙ c.if-not-is_empty.false))

@@ -1,11 +1,13 @@
 use Rattle.std.proofs.Common.{◌≡◌, ◌∙◌, false, sym, subst, refl, true≢false}
-use Rattle.fancy_regex_tree.specs.Tree.{Tree}
+use Rattle.fancy_regex_tree.specs.Tree.{Tree, tree_of}
+use Rattle.fancy_regex_info.specs.declared.info.Info.{out-Info}
 use Rattle.fancy_regex_meaning.specs.Groups.{pattern_of}
 use Rattle.fancy_regex_info.specs.Analysis.{analysis}
 use Rattle.fancy_regex_info.specs.Infos.{info_of}
 use Rattle.fancy_regex_analysis.proofs.PartErrorLemmas.{gives}
 use Rattle.fancy_regex_linear.specs.CalledClasses.{IsWrittenCause}
-use Rattle.fancy_regex_meta.proofs.StrategyLemmas.{program_unlimited}
+use Rattle.fancy_regex_meta.proofs.AnalysisLemmas.{analyzed_tree}
+use Rattle.fancy_regex_meta.proofs.StrategyLemmas.{program_unlimited, relaxed_is}
 use Rattle.fancy_regex_meta.proofs.strategy.hard_strategy.Goals as goal
 
 pub returns-in-Some-clause-runs : goal.returns-in-Some-clause-runs
@@ -20,14 +22,16 @@ returns-then-not-supported-clause-linear c t is = (
   λ states. absurd (true≢false (sym ((c.in_ok-supported.ensures t is).1 states) ∙ c.if-not-supported.true)),
 )
 
-pub returns-in-Some-states-clause-runs : goal.returns-in-Some-states-clause-runs
-returns-in-Some-states-clause-runs c t is does = (
+pub returns-in_ok-relaxed-in-Some-states-clause-runs : goal.returns-in_ok-relaxed-in-Some-states-clause-runs
+returns-in_ok-relaxed-in-Some-states-clause-runs c t is does = (
   (rw c.in-Some-states.is at c.in_ok-states.ensures.states) t is,
   rw c.unlimited.ensures (program_unlimited c.args.options.now t c.args.prog c.args.run_options does),
+  relaxed_is c.args.options.now c.compile_options.result.unicode (tree_of (out-Info c.args.info.now).expr.now) t c.in_ok-relaxed-in-Some-states.relaxed
+      c.compile_options.ensures.unicode (analyzed_tree c.args.info.now t is) c.in_ok-relaxed-in-Some-states.ensures,
 )
 
-pub returns-in-Some-states-clause-linear : goal.returns-in-Some-states-clause-linear
-returns-in-Some-states-clause-linear c t is = (λ yes. ((rw c.in-Some-states.is at c.in_ok-states.ensures.exact) t is).0 refl, λ has. refl)
+pub returns-in_ok-relaxed-in-Some-states-clause-linear : goal.returns-in_ok-relaxed-in-Some-states-clause-linear
+returns-in_ok-relaxed-in-Some-states-clause-linear c t is = (λ yes. ((rw c.in-Some-states.is at c.in_ok-states.ensures.exact) t is).0 refl, λ has. refl)
 
 pub returns-in-None-clause-linear : goal.returns-in-None-clause-linear
 returns-in-None-clause-linear c t is = (

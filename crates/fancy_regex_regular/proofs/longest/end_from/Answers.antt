@@ -2,9 +2,9 @@ use Rattle.std.proofs.Common.{◌≡◌, ◌∙◌, ap, arith}
 use Rattle.std.specs.Prelude.{option_map}
 use Rattle.fancy_regex_parts.specs.Layers.{HasWays}
 use Rattle.fancy_regex_parts.specs.Ways.{ways_of, text_view}
-use Rattle.fancy_regex_regular.specs.Ends.{first_in, end_in, ways_from}
+use Rattle.fancy_regex_regular.specs.Ends.{end_in, ways_from}
 use Rattle.fancy_regex_regular.specs.Regulars.{continue_place}
-use Rattle.fancy_regex_regular.proofs.AskedLemmas.{is_asked, end_of_way, tried_from, unset, way_from}
+use Rattle.fancy_regex_regular.proofs.AskedLemmas.{is_asked, end_from}
 use Rattle.fancy_regex_regular.proofs.ContinueLemmas.{place_for}
 use Rattle.fancy_regex_regular.proofs.FarLemmas.{none_past_range, end_is_between}
 use Rattle.fancy_regex_regular.proofs.RegularGroupLemmas.{ways_in}
@@ -35,7 +35,7 @@ returns-clause-end c pattern is =
     let text = c.args.text.now in
     let input = c.args.input.now in
     let stop = input.range.end in
-    let a = is_asked regular.unicode regular.table.states.items regular.entry regular.matchers.items pattern is.states text input
+    let a = is_asked regular.unicode regular.resets_start regular.table.states.items regular.entry regular.matchers.items pattern is.states text input
     (continue_place regular input) c.args.least (place_for regular input) c.utf8.text in
     let ways = ways_of a.go in
     let has_ways : HasWays c.context-context.result text (text_view a.view) ways =
@@ -45,7 +45,6 @@ returns-clause-end c pattern is =
     let is_end : c.in_ok-end.end ≡ end_in c.args.least stop (ways_from regular text input pattern c.args.start) =
     said
     ∙ ap (option_map (λ t. t.end)) (a.means c.args.start c.requires.start.0)
-    ∙ end_of_way (unset regular.unicode text input pattern is.states.of_tree is.states.all_classes is.states.base is.states.called is.states.regular is.states.stand) (first_in c.args.least stop (ways_from regular text input pattern c.args.start))
-    (tried_from regular.unicode text input pattern is.states.of_tree is.states.all_classes is.states.base is.states.called is.states.regular is.states.stand c.args.least c.args.start)
-    (way_from regular.unicode text input pattern is.states.of_tree is.states.all_classes is.states.base is.states.called is.states.regular is.states.stand regular.longest c.args.least c.args.start c.requires.start.0) in
+    ∙ end_from regular.unicode regular.resets_start text input pattern is.states.of_tree is.states.all_classes is.states.base is.states.called is.states.own_span
+    is.states.regular is.states.stand regular.longest c.args.least c.args.start c.requires.start.0 in
     c.if_inside.ensures.same (end_is_between c.args.least stop (ways_from regular text input pattern c.args.start) c.in_ok-end.end is_end) ∙ is_end

@@ -1,5 +1,5 @@
 use Rattle.std.proofs.Common.{◌≡◌, ℕ, vec_len, Bool, true, false, ◌==◌, ap₂, ◌∙◌, ◌∷◌, [], ◌&&◌, ◌||◌, not, length, map, ap, sym, refl, subst, rules, arith, List}
-use Rattle.fancy_regex_tree.specs.Tree.{tree_of, concat, alt, group, repeat, atomic_group, Tree, conditional}
+use Rattle.fancy_regex_tree.specs.Tree.{tree_of, concat, alt, group, look_around, repeat, atomic_group, Tree, conditional}
 use Rattle.fancy_regex_linear.specs.Re as re
 use Rattle.fancy_regex_linear.specs.Re.{Re, shape, shapes, cats, alts}
 use Rattle.fancy_regex_info.specs.Views.{size_of}
@@ -9,12 +9,12 @@ use Rattle.fancy_regex_linear.specs.Plain.{classes, re_of, joined, is_negated_lo
 use Rattle.fancy_regex_linear.specs.Refusals.{IsClassCause}
 use Rattle.fancy_regex_linear.specs.Translation.{all_trees, all_move, around_tree, IsWritable, called_in}
 use Rattle.fancy_regex_info.specs.AnalysisRelations.{AreCallSizes}
-use Rattle.fancy_regex_linear.proofs.PlainLemmas.{one_char_groups, one_char_classes, joined_sound, joined_still}
+use Rattle.fancy_regex_linear.proofs.PlainLemmas.{one_char_groups, one_char_classes, regular_resets, joined_sound, joined_still}
 use Rattle.fancy_regex_linear.proofs.PartLemmas.{IsOnePart, other_part, long_part}
 use Rattle.fancy_regex_linear.proofs.BuildLemmas.{extends_none, look_is, ahead_is, behind_is, each_behind, each_is, nodes_still, all_sound, row_none, row_sound, branches_sound, cause_in_row, if_ok, nodes_step, row_whole, row_is, branches_is, row_moves, all_moves, branches_move, conditional_matchers, conditional_shape, cause_in_condition, cause_in_yes, cause_in_no}
 use Rattle.fancy_regex_linear.proofs.NoClassLemmas.{NoClass, no_classes}
 use Rattle.std.proofs.lemmas.List.{map-append, length-map}
-use Rattle.fancy_regex_linear.proofs.ShapeLemmas.{tree_concat, tree_alt, tree_group, tree_repeat, tree_atomic, shape_concat, shape_alt, shape_repeat, tree_conditional}
+use Rattle.fancy_regex_linear.proofs.ShapeLemmas.{tree_concat, tree_alt, tree_group, tree_look, tree_repeat, tree_atomic, shape_concat, shape_alt, shape_repeat, tree_conditional}
 use Rattle.fancy_regex_linear.proofs.build.Translator.+build.Goals as goal
 use Rattle.fancy_regex_linear.proofs.build.Translator.+build.Goals.{row-then-moves, row-else-moves, branches-then-moves, branches-else-moves, branches-then-moves-2, branches-else-moves-2}
 
@@ -48,6 +48,24 @@ translated-returns-in-Repeat-clause-shape t c =
     ap tree_of c.in-Repeat.is ∙ tree_repeat c.in-Repeat.child c.in-Repeat.lo c.in-Repeat.hi c.in-Repeat.greedy
     ∙ ap (λ x. repeat (tree_of x) c.in-Repeat.lo c.in-Repeat.hi c.in-Repeat.greedy) (sym box) in
     rw e c.repeat.ensures.shape
+
+pub translated-returns-in-LookAround-clause-groups : goal.translated-returns-in-LookAround-clause-groups
+unfolding group_count
+translated-returns-in-LookAround-clause-groups t c =
+    let box : c.deref-in-LookAround.result.now ≡ c.in-LookAround.child.value = search rules in
+    let body = tree_of c.deref-in-LookAround.result.now in
+    let e : tree_of c.args.expr.now ≡ look_around (tree_of c.deref-in-LookAround.result.now) c.in-LookAround.look =
+    ap tree_of c.in-LookAround.is ∙ tree_look c.in-LookAround.child c.in-LookAround.look ∙ ap (λ x. look_around (tree_of x) c.in-LookAround.look) (sym box) in
+    rw e (if_ok c.look_around.result (λ translated h p. h (regular_resets (λ j. Unit {0}) body p)) c.look_around.ensures.groups)
+
+pub translated-returns-in-LookAround-clause-shape : goal.translated-returns-in-LookAround-clause-shape
+unfolding re_of
+translated-returns-in-LookAround-clause-shape t c =
+    let box : c.deref-in-LookAround.result.now ≡ c.in-LookAround.child.value = search rules in
+    let body = tree_of c.deref-in-LookAround.result.now in
+    let e : tree_of c.args.expr.now ≡ look_around (tree_of c.deref-in-LookAround.result.now) c.in-LookAround.look =
+    ap tree_of c.in-LookAround.is ∙ tree_look c.in-LookAround.child c.in-LookAround.look ∙ ap (λ x. look_around (tree_of x) c.in-LookAround.look) (sym box) in
+    rw e (if_ok c.look_around.result (λ translated h p groups sized. h (regular_resets (λ j. Unit {0}) body p) groups sized) c.look_around.ensures.shape)
 
 pub translated-returns-in-AtomicGroup-clause-shape : goal.translated-returns-in-AtomicGroup-clause-shape
 unfolding re_of

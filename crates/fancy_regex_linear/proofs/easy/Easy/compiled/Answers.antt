@@ -1,4 +1,4 @@
-use Rattle.std.proofs.Common.{◌≡◌, ◌∙◌, ◌++◌, ap, [], ◌∷◌, List, Bool, ℕ, ◌+◌, ◌==◌, not, if◌then◌else◌, length, subst, sym, arith, rules}
+use Rattle.std.proofs.Common.{◌≡◌, ◌∙◌, ◌++◌, ap, [], ◌∷◌, List, Bool, true, ℕ, ◌+◌, ◌==◌, not, if◌then◌else◌, length, subst, sym, arith, rules}
 use Rattle.fancy_regex_tree.specs.Tree.{Tree, tree_of}
 use Rattle.fancy_regex_info.specs.Analysis.{analysis}
 use Rattle.fancy_regex_info.specs.Infos.{info_of}
@@ -53,7 +53,7 @@ returns-clause-made c = λ explicit t is.
     let unicode = c.args.options.now.unicode in
     let begins : (c.start_group-explicit.result == 0) ≡ explicit = ap (λ (n : ℕ). n == 0) c.start_group-explicit.ensures ∙ of.start in
     let first : c.new-translator.result.next_group ≡ (if explicit then 0 else 1) = c.new-translator.ensures.first ∙ ap (λ b. if b then 0 else 1) begins in
-    let regular = plain_regular (λ j. Unit {0}) t plain in
+    let regular = plain_regular (λ j. Unit {0}) true t plain in
     let built = subst (λ u. IsWritable u → (groups : List Tree) → AreCallSizes groups c.new-translator.result.sizes.items → shape c.in_ok-translated.translated.node
     ≡ re_of c.new-translator.result.unicode groups (called_in c.new-translator.result.called.items) c.new-translator.result.next_group
     (length c.new-translator.result.matchers.items) u) of.tree c.in_ok-translated.ensures.shape regular [] (rw c.new-translator.ensures.tables.0 no_sizes) in

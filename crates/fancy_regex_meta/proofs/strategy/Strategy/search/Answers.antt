@@ -49,5 +49,5 @@ returns-in-Ok-Ok-clause-stays c o under =
 -- the answer of either
 pub returns-in-Regular-clause-answer : goal.returns-in-Regular-clause-answer
 returns-in-Regular-clause-answer c =
-    if_ok c.search_by_either.result c.search_by_either.ensures.answer
-    (λ found told o t runs. let of = rw c.in-Regular.is at runs in told o t of.0 of.1)
+    if_ok c.search_skipping.result c.search_skipping.ensures.answer
+    (λ found told o t runs. let of = rw c.in-Regular.is at runs in told o t of.0 of.1 of.2)

@@ -1,4 +1,4 @@
-use Rattle.std.proofs.Common.{◌≡◌, ◌∙◌, ◌*◌, ℕ, false, ap, arith, rules}
+use Rattle.std.proofs.Common.{◌≡◌, ◌∙◌, ◌*◌, ℕ, false, sym, ap, arith, rules}
 use Rattle.fancy_regex_meaning.specs.Positions.{boundaries}
 use Rattle.fancy_regex_class.specs.Looks.{look_count}
 use Rattle.fancy_regex_parts.specs.Find.{earliest, tried}
@@ -12,9 +12,8 @@ use Rattle.fancy_regex_regular.specs.Iterations.{IsPaidWithin, paid_before, paid
 use Rattle.fancy_regex_regular.specs.Kept.{IsReady, IsTrueFor}
 use Rattle.fancy_regex_regular.specs.Starts.{last_start}
 use Rattle.fancy_regex_regular.proofs.ContinueLemmas.{place_for}
-use Rattle.fancy_regex_regular.proofs.KeptLemmas.{can_ask, kept_after}
+use Rattle.fancy_regex_regular.proofs.KeptLemmas.{can_ask, can_walk, kept_after}
 use Rattle.fancy_regex_regular.proofs.RegularSpanLemmas.{is_searched, none_past}
-use Rattle.fancy_regex_regular.proofs.FarLemmas.{boundary_of}
 use Rattle.fancy_regex_regular.proofs.RegularWeightLemmas.{looks_most}
 use Rattle.fancy_regex_regular.proofs.PaidLemmas.{looks_on, paid_of}
 use Rattle.fancy_regex_regular.proofs.regular.Regular.find_first.Goals as goal
@@ -50,21 +49,21 @@ returns-clause-kept c =
 
 pub returns-then-input-clause-answer : goal.returns-then-input-clause-answer
 returns-then-input-clause-answer c pattern is =
-    none_past c.args.self.now.unicode _ _ _ pattern is.states c.args.text.now c.args.input.now false (omega (arith, c.if-input.true))
+    none_past c.args.self.now.unicode pattern c.args.text.now c.args.input.now false (omega (arith, c.if-input.true))
 
 pub returns-clause-answer : goal.returns-clause-answer
 returns-clause-answer c pattern is =
     let self = c.args.self.now in
     let text = c.args.text.now in
     let input = c.args.input.now in
-    let found = is_searched self.unicode self.table.states.items self.entry self.matchers.items pattern is.states text input
+    let found = is_searched self.unicode self.resets_start self.table.states.items self.entry self.matchers.items pattern is.states text input
     (continue_place self input) (place_for self input) c.utf8.text c.requires.first (omega (arith, c.if-input.false)) c.requires.range in
     let context = c.context-context.ensures in
-    let ways = ways_of found.go in
-    let has_ways : HasWays c.context-context.result text (text_view found.view) ways =
-    rw (context.table_is, context.matchers_are, context.rules_are, context.range_is) found.explains in
+    let ways = ways_of found.asked.go in
+    let has_ways : HasWays c.context-context.result text (text_view found.asked.view) ways =
+    rw (context.table_is, context.matchers_are, context.rules_are, context.range_is) found.asked.explains in
     let said : c.in_ok-span.span ≡ earliest (ways.end self.entry) (boundaries text input.first c.last_start.result) =
-    (rw (c.new-counted.ensures.text, context.entry_is) at c.in_ok-span.ensures.found) (text_view found.view) ways has_ways ((ready (goal.at.returns-clause-answer c).After-begin).remembers (text_view found.view) ways has_ways) in
+    (rw (c.new-counted.ensures.text, context.entry_is) at c.in_ok-span.ensures.found) (text_view found.asked.view) ways has_ways ((ready (goal.at.returns-clause-answer c).After-begin).remembers (text_view found.asked.view) ways has_ways) in
     said
     ∙ ap (λ last. earliest (ways.end self.entry) (boundaries text input.first last)) c.last_start.ensures
     ∙ found.first_is
@@ -118,5 +117,7 @@ returns-in_err-span-clause-paid c low =
 pub returns-clause-paid : goal.returns-clause-paid
 returns-clause-paid c low = paid (goal.at.returns-clause-paid c).After-find (ready (goal.at.returns-clause-paid c).After-begin) c.begin.ensures.serves
 
-pub returns-clause-start : goal.returns-clause-start
-returns-clause-start c = boundary_of _ _ _ _ c.in_ok-span.span (rw c.new-counted.ensures.text at c.in_ok-span.ensures.place)
+pub returns-clause-walks : goal.returns-clause-walks
+returns-clause-walks c =
+    can_walk c.args.self.now c.args.text.now c.args.input.now _ c.in_ok-span.span c.begin.ensures.serves
+    (rw (c.context-context.ensures.table_is, c.context-context.ensures.entry_is, c.new-counted.ensures.text, sym c.find.ensures.leaves.base) at c.in_ok-span.ensures.place)

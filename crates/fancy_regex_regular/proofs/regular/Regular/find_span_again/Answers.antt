@@ -1,50 +1,43 @@
-use Rattle.std.proofs.Common.{◌≡◌, ◌∙◌, ◌+◌, Bool, Some, sym, subst, arith}
-use Rattle.std.specs.Prelude.{option_map}
-use Rattle.fancy_regex_class.specs.RunInputs.{setting_for, search_for}
-use Rattle.fancy_regex_meaning.specs.Searches.{first_match}
+use Rattle.std.proofs.Common.{◌∙◌, ℕ, Some, sym, ap, arith}
+use Rattle.fancy_regex_class.specs.RunInputs.{setting_for}
 use Rattle.fancy_regex_linear.specs.EasyPatterns.{span_of_match}
-use Rattle.fancy_regex_meaning.specs.Groups.{Pattern}
-use Rattle.fancy_regex_regular.specs.Regulars.{IsRegularOf}
-use Rattle.fancy_regex_regular.proofs.FarLemmas.{IsFirstAt, first_at, none_past_range, none_wanted}
+use Rattle.fancy_regex_regular.proofs.AskedLemmas.{begins_at}
+use Rattle.fancy_regex_regular.proofs.FarLemmas.{none_found, spans_are}
+use Rattle.fancy_regex_regular.proofs.PaidLemmas.{paid_of}
 use Rattle.fancy_regex_regular.proofs.regular.Regular.find_span_again.Goals as goal
-use Rattle.fancy_regex_regular.proofs.regular.Regular.find_span_again.Goals.{In-Some}
+
+pub returns-then-not-self-clause-answer : goal.returns-then-not-self-clause-answer
+returns-then-not-self-clause-answer c pattern is =
+    let self = c.args.self.now in
+    let text = c.args.text.now in
+    let input = c.args.input.now in
+    c.in_ok-found.ensures.answer pattern is
+    ∙ sym (spans_are (setting_for self.unicode text input) pattern input self.longest
+    (λ p w e. begins_at self.unicode self.resets_start text input pattern is.states.of_tree is.states.all_classes is.states.base is.states.called is.states.own_span
+    is.states.regular is.states.stand c.if-not-self.true self.longest p w e))
 
 pub returns-in_default-clause-answer : goal.returns-in_default-clause-answer
 returns-in_default-clause-answer c pattern is =
-    none_wanted c.args.self.now.unicode c.args.text.now c.args.input.now pattern is.states.of_tree is.states.all_classes
-    is.states.base is.states.called is.states.regular is.states.stand c.args.self.now.longest
-    (sym c.in_default.is ∙ c.in_ok-first.ensures.answer pattern is)
+    none_found (setting_for c.args.self.now.unicode c.args.text.now c.args.input.now) pattern c.args.input.now c.args.self.now.longest span_of_match
+    (sym c.in_default.is ∙ c.in_ok-found.ensures.answer pattern is)
 
--- where the first match starts and ends
-found : (c : In-Some) (pattern : Pattern) (is : IsRegularOf c.args.self.now pattern)
-    → IsFirstAt c.args.self.now.unicode c.args.text.now c.args.input.now pattern is.states.of_tree is.states.all_classes
-    is.states.base is.states.called is.states.regular is.states.stand c.in-Some.start c.in-Some.end
-found c pattern is =
-    first_at c.args.self.now.unicode c.args.text.now c.args.input.now pattern is.states.of_tree is.states.all_classes
-    is.states.base is.states.called is.states.regular is.states.stand c.in-Some.start c.in-Some.end
-    (sym c.in-Some.is ∙ c.in_ok-first.ensures.answer pattern is)
+pub returns-in_err-walk_along-clause-paid : goal.returns-in_err-walk_along-clause-paid
+returns-in_err-walk_along-clause-paid c low =
+    let walks = c.walk_along.ensures.walks in
+    paid_of c.args.self.now c.args.text.now c.args.input.now c.walk_along.new.memory.parts c.walk_along.new.memory.kept walks.serves c.walk_along.ensures.kept
+    (omega (arith, walks.place.low, walks.place.boundary.0))
 
-pub returns-then-end-input-clause-answer : goal.returns-then-end-input-clause-answer
-returns-then-end-input-clause-answer c pattern is =
-    let self = c.args.self.now in
-    let text = c.args.text.now in
-    let input = c.args.input.now in
-    let start = c.in-Some.start in
-    let end = c.in-Some.end in
-    let f = found (goal.at.returns-then-end-input-clause-answer c).In-Some pattern is in
-    subst (λ (b : Bool). Some (start, end) ≡ option_map span_of_match (first_match (setting_for self.unicode text input) pattern (search_for b input)))
-    (sym c.if-not-self.false)
-    (f.longest end f.way (none_past_range self text input start (end + 1) (omega (arith, c.if-end-input.true)) pattern is))
+pub returns-clause-paid : goal.returns-clause-paid
+returns-clause-paid c low =
+    let walks = c.walk_along.ensures.walks in
+    paid_of c.args.self.now c.args.text.now c.args.input.now c.walk_along.new.memory.parts c.walk_along.new.memory.kept walks.serves c.walk_along.ensures.kept
+    (omega (arith, walks.place.low, walks.place.boundary.0))
 
-pub longest_end-requires-clause-way : goal.longest_end-requires-clause-way
-longest_end-requires-clause-way c pattern is = (found (goal.at.longest_end-requires-clause-way c).In-Some pattern is).way
+pub returns-clause-walked : goal.returns-clause-walked
+returns-clause-walked c first low = c.in_ok-walk_along.ensures.at_most first c.args.steps.now (c.in_ok-found.ensures.at_most first low)
 
 pub returns-clause-answer : goal.returns-clause-answer
 returns-clause-answer c pattern is =
-    let self = c.args.self.now in
-    let text = c.args.text.now in
-    let input = c.args.input.now in
-    let f = found (goal.at.returns-clause-answer c).In-Some pattern is in
-    subst (λ (b : Bool). Some (c.in-Some.start, c.in_ok-last.last) ≡ option_map span_of_match (first_match (setting_for self.unicode text input) pattern (search_for b input)))
-    (sym c.if-not-self.false)
-    (f.longest c.in_ok-last.last (c.in_ok-last.ensures.way pattern is) (c.in_ok-last.ensures.last pattern is))
+    let t = c.in_ok-walk_along.ensures.told pattern is in
+    let own = is.states.own_span c.if-not-self.false in
+    ap (λ (start : ℕ). Some (start, c.in-Some.end)) (c.told_start.ensures.told (t.boundary own (omega arith))) ∙ sym (t.span own (omega arith))

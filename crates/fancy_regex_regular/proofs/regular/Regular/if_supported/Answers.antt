@@ -42,13 +42,13 @@ returns-in-Some-built-clause-exact c explicit t is =
 pub returns-in-None-clause-exact : goal.returns-in-None-clause-exact
 returns-in-None-clause-exact c explicit t is =
     let states = (rw c.in-Some.is at c.in_ok-found.ensures.made) explicit t is in
-    let closed = states_closed c.args.options.now.unicode c.in-Some.made.states.items c.in-Some.made.entry c.in-Some.made.matchers.items (pattern_in explicit t) states in
+    let closed = states_closed c.args.options.now.unicode c.in-Some.made.resets_start c.in-Some.made.states.items c.in-Some.made.entry c.in-Some.made.matchers.items (pattern_in explicit t) states in
     (λ some. absurd (true≢false (sym some)), λ supported. absurd (true≢false (sym ((rw c.in-None.is at c.in_ok-built.ensures.exact).1 closed))))
 
 pub returns-then-entry-len-clause-exact : goal.returns-then-entry-len-clause-exact
 returns-then-entry-len-clause-exact c explicit t is =
     let states = (rw c.in-Some.is at c.in_ok-found.ensures.made) explicit t is in
-    let inside = entry_inside c.args.options.now.unicode c.in-Some.made.states.items c.in-Some.made.entry c.in-Some.made.matchers.items (pattern_in explicit t) states in
+    let inside = entry_inside c.args.options.now.unicode c.in-Some.made.resets_start c.in-Some.made.states.items c.in-Some.made.entry c.in-Some.made.matchers.items (pattern_in explicit t) states in
     (λ some. absurd (true≢false (sym some)), λ supported. absurd (omega (arith, inside, c.if-entry-len.true, c.len.ensures, c.in-Some.made.states.ok.0)))
 
 pub returns-in_default-clause-exact : goal.returns-in_default-clause-exact
