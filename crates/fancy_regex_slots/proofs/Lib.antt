@@ -1,2 +1,3 @@
 pub mod LogLemmas
+pub mod RowLemmas
 pub mod ShortenLemmas

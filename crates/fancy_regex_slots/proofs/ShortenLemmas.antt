@@ -1,5 +1,5 @@
 -- A log whose topmost entries are replaced by one for each slot that they change.
-use Rattle.std.proofs.Common.{◌≡◌, ◌≢◌, ℕ, zero, suc, ◌+◌, ◌-◌, ◌<◌, ◌≤◌, List, [], ◌∷◌, ◌++◌, length, map, take, drop, get_or, set, refl, sym, ap, subst, ◌∙◌, arith, append_assoc, add-one, drop-cons}
+use Rattle.std.proofs.Common.{◌≡◌, ◌≢◌, ℕ, suc, ◌+◌, ◌-◌, ◌<◌, ◌≤◌, List, [], ◌∷◌, ◌++◌, length, map, take, drop, get_or, set, refl, sym, ap, subst, ◌∙◌, arith, append_assoc, add-one, drop-cons}
 use Rattle.std.specs.Prelude.{reverse}
 use Rattle.std.specs.List.{All}
 use Rattle.std.proofs.Math.Seq.{take-suc, take-append-add, drop-append_seam}
@@ -8,7 +8,7 @@ use Rattle.std.proofs.lemmas.List.Elements.{All-head, All-tail, All-push, All-we
 use Rattle.fancy_regex_slots.specs.UndoLog.{undone, saved_row, spread, memory_of, AreLogged, AreMarks, AreMarksBelow, IsLogBelow, IsShortened, IsSound, segment_limit, top_mark}
 use Rattle.fancy_regex_slots.specs.declared.branch.Branch.{Branch}
 use Rattle.fancy_regex_slots.specs.declared.branch.OldValue.{OldValue}
-use Rattle.fancy_regex_slots.proofs.LogLemmas.{marks-closed, undone-popped, undone-last, threads_same, reverse-snoc}
+use Rattle.fancy_regex_slots.proofs.LogLemmas.{marks-closed, take-within, undone-popped, undone-last, threads_same, reverse-snoc}
 
 -- a slot that no entry writes to
 undone-set : (values : List ℕ) (log : List OldValue) (slot value : ℕ) → All (λ old. old.slot < slot) log → undone (set values slot value) log ≡ set (undone values log) slot value
@@ -95,24 +95,19 @@ unfolding AreMarks AreMarksBelow top_mark
 threads_shortened values log shorter [] limit h marks is inside = refl
 threads_shortened values log shorter (b ∷ branches) limit h marks is inside =
     threads_same values values log shorter (b ∷ branches) limit b.logged (omega arith, omega arith, marks.1) (λ k le. undone_shortened values log shorter b.logged k is inside le)
+    (λ k le. sym (take-within k b.logged shorter le) ∙ ap (take k) is.front ∙ take-within k b.logged log le)
 
 -- all that the branches save
 pub memory-shortened : (values : List ℕ) (log shorter : List OldValue) (branches : List Branch) → IsLogBelow values log branches → IsShortened values (top_mark (reverse branches)) log shorter → top_mark (reverse branches) ≤ length log → memory_of values shorter branches ≡ memory_of values log branches
 memory-shortened values log shorter branches below is inside =
     ap (λ l. record { slots = values; stack = spread l }) (threads_shortened values log shorter (reverse branches) (segment_limit (length values)) (length log) below.marks is inside)
 
-take_within : {A : Type 0} (m n : ℕ) (xs : List A) → m ≤ n → take m (take n xs) ≡ take m xs
-take_within zero n xs le = refl
-take_within (suc m) zero xs le = absurd (omega (arith, le))
-take_within (suc m) (suc n) [] le = refl
-take_within (suc m) (suc n) (x ∷ xs) le = ap (λ l. x ∷ l) (take_within m n xs (omega (arith, le)))
-
 -- the first `start` entries of a log, and the first `kept` of those that were written after them
 written : (log part post rest : List OldValue) (len start kept : ℕ) → start + kept ≤ len → start ≤ length log → kept ≤ length part → take (start + kept) (take len ((take start log ++ (part ++ post)) ++ rest)) ≡ take start log ++ take kept part
 written log part post rest len start kept fits inside there =
     let front : length (take start log) ≡ start = length-take-le start log inside in
     let long : start + kept ≤ length (take start log ++ (part ++ post)) = omega (arith, front, there, length-append (take start log) (part ++ post), length-append part post) in
-    take_within (start + kept) len ((take start log ++ (part ++ post)) ++ rest) fits
+    take-within (start + kept) len ((take start log ++ (part ++ post)) ++ rest) fits
     ∙ take-append-le (start + kept) (take start log ++ (part ++ post)) rest long
     ∙ ap (λ n. take (n + kept) (take start log ++ (part ++ post))) (sym front)
     ∙ take-append-add (take start log) (part ++ post) kept
@@ -153,7 +148,7 @@ shortened values copied saved log read lent part post new len start kept len_is 
     (shortened_by values log (take kept part) start long (omega (arith, few, length-take-le kept part room)) logged there same)
 
 -- entries that are few enough stay
-pub shortened-none : (values : List ℕ) (log : List OldValue) (start : ℕ) → start ≤ length log → length log < start + segment_limit (length values) → AreLogged (length values) log → IsShortened values start log log
+pub shortened-none : (values : List ℕ) (log : List OldValue) (start : ℕ) → start ≤ length log → length log + 2 ≤ start + segment_limit (length values) → AreLogged (length values) log → IsShortened values start log log
 shortened-none values log start inside few logged = record {
   front = refl;
   undone_same = refl;
@@ -169,13 +164,14 @@ sound-shortened values log shorter branches below is = record {
   marks =
       marks-closed (segment_limit (length values)) (length log) (length shorter) (reverse branches) below.marks is.begins
       (let short = is.short in omega (arith, short));
+  counters = below.counters;
 }
 
-pub one-more : (values : List ℕ) (log shorter : List OldValue) (branches : List Branch) → IsLogBelow values log branches → IsShortened values (top_mark (reverse branches)) log shorter → AreMarks (segment_limit (length values)) (length shorter + 1) (reverse branches)
-one-more values log shorter branches below is =
+pub two-more : (values : List ℕ) (log shorter : List OldValue) (branches : List Branch) → IsLogBelow values log branches → IsShortened values (top_mark (reverse branches)) log shorter → AreMarks (segment_limit (length values)) (length shorter + 2) (reverse branches)
+two-more values log shorter branches below is =
     let short = is.short in
     let begins = is.begins in
-    marks-closed (segment_limit (length values)) (length log) (length shorter + 1) (reverse branches) below.marks (omega (arith, begins)) (omega (arith, short))
+    marks-closed (segment_limit (length values)) (length log) (length shorter + 2) (reverse branches) below.marks (omega (arith, begins)) (omega (arith, short))
 
 pub from-mark : (values : List ℕ) (start mark : ℕ) (log shorter : List OldValue) → start ≡ mark → IsShortened values start log shorter → IsShortened values mark log shorter
 from-mark values start mark log shorter e is = subst (λ n. IsShortened values n log shorter) e is

@@ -1,16 +1,16 @@
 //! The log of the values that were written over: undoing a part of it, and keeping it short.
 
-ghost use Rattle.std.specs.Prelude.{◌≡◌, ◌+◌, ◌≤◌, length, take, reverse, OnOk};
-ghost use Rattle.fancy_regex_slots.specs.UndoLog.{memory_of, AreLogged, IsLogBelow, IsSound, IsShortened, AreMarks, segment_limit, top_mark, undone};
+ghost use Rattle.std.specs.Prelude.{◌≡◌, ◌+◌, ◌<◌, ◌≤◌, length, take, reverse, true, OnOk};
+ghost use Rattle.fancy_regex_slots.specs.UndoLog.{memory_of, restored, IsWriteOnTop, AreLogged, IsLogBelow, IsSound, IsShortened, AreMarks, segment_limit, top_mark, undone};
 
 use crate::branch::{Branch, OldValue};
 use std::alloc::AllocError;
 
-/// The fewest entries above the topmost branch that may be too many.
-pub(crate) const MANY: usize = 64;
+/// The fewest entries above the topmost branch that may be too many, as two more may be logged.
+pub(crate) const MANY: usize = 63;
 
 /// Undoes logged writes, the newest first.
-pub(crate) fn undo(values: &mut [usize], log: &[OldValue])
+fn undo(values: &mut [usize], log: &[OldValue])
     requires { AreLogged (length values.old) log.now }
     ensures { values.new ≡ undone values.old log.now }
 {
@@ -19,8 +19,23 @@ pub(crate) fn undo(values: &mut [usize], log: &[OldValue])
     }
 }
 
-/// Makes `room` as long as `slots` where the log may become long enough to be shortened: it has `entries`, and one more is to
-/// be logged. If memory runs out, nothing changes.
+/// Undoes what was logged since the row was pushed, and then writes the value of its counter in the topmost branch, if it has one.
+#[inline(always)]
+pub(crate) fn restore(values: &mut [usize], log: &[OldValue], row: Branch)
+    requires logged { AreLogged (length values.old) log.now }
+    requires mark { row.logged ≤ length log.now }
+    requires counter { row.counts ≡ true → 0 < row.logged }
+    ensures { values.new ≡ restored values.old log.now row }
+{
+    undo(values, &log[row.logged..]);
+    if row.counts {
+        let lowest = log[row.logged - 1];
+        values[lowest.slot] = lowest.value.saturating_add(row.more);
+    }
+}
+
+/// Makes `room` as long as `slots` where the log may become long enough to be shortened: it has `entries`, and one or two more are
+/// to be logged. If memory runs out, nothing changes.
 #[inline(always)]
 pub(crate) fn make_room(
     room: &mut Vec<usize>,
@@ -28,9 +43,9 @@ pub(crate) fn make_room(
     entries: usize,
 ) -> Result<(), AllocError>
     ensures longer { length room.old.items ≤ length room.new.items }
-    ensures ok { OnOk result (MANY ≤ entries + 1 → slots ≤ length room.new.items) }
+    ensures ok { OnOk result (MANY ≤ entries + 2 → slots ≤ length room.new.items) }
 {
-    if entries < MANY - 1 || slots <= room.len() {
+    if entries < MANY - 2 || slots <= room.len() {
         return Ok(());
     }
     lengthen(room, slots)
@@ -47,8 +62,37 @@ fn lengthen(room: &mut Vec<usize>, slots: usize) -> Result<(), AllocError>
     Ok(())
 }
 
-/// Makes the log shorter where too much was logged since the topmost branch was pushed. What the branches save stays, and one
-/// more entry may be logged. `room` is as long as the slots where the log is long, and what it holds is lost.
+/// Logs the value of the slot, which is about to be written, and then `lowest` for the same slot. What the branches save stays. If
+/// memory runs out, that stays too.
+pub(crate) fn log_counter(
+    values: &[usize],
+    room: &mut Vec<usize>,
+    log: &mut Vec<OldValue>,
+    branches: &[Branch],
+    slot: usize,
+    lowest: usize,
+) -> Result<(), AllocError>
+    requires room { MANY ≤ length log.old.items → length values.now ≤ length room.old.items }
+    requires sound { IsSound values.now log.old.items branches.now }
+    requires slot { slot < length values.now }
+    ensures room { MANY ≤ length log.new.items → length values.now ≤ length room.new.items }
+    ensures memory { memory_of values.now log.new.items branches.now ≡ memory_of values.now log.old.items branches.now }
+    ensures sound { IsSound values.now log.new.items branches.now }
+    ensures on_top { OnOk result (IsWriteOnTop (record { slot = slot; value = lowest }) (top_mark (reverse branches.now)) log.new.items) }
+{
+    let value = values[slot];
+    make_room(room, values.len(), log.len())?;
+    bound_log(values, room, log, branches);
+    log.push(OldValue { slot, value })?;
+    log.push(OldValue {
+        slot,
+        value: lowest,
+    })?;
+    Ok(())
+}
+
+/// Makes the log shorter where too much was logged since the topmost branch was pushed. What the branches save stays, and two
+/// more entries may be logged. `room` is as long as the slots where the log is long, and what it holds is lost.
 #[inline(always)]
 pub(crate) fn bound_log(
     values: &[usize],
@@ -60,7 +104,7 @@ pub(crate) fn bound_log(
     requires log { IsLogBelow values.now log.old.items branches.now }
     ensures memory { memory_of values.now log.new.items branches.now ≡ memory_of values.now log.old.items branches.now }
     ensures sound { IsSound values.now log.new.items branches.now }
-    ensures one_more { AreMarks (segment_limit (length values.now)) (length log.new.items + 1) (reverse branches.now) }
+    ensures two_more { AreMarks (segment_limit (length values.now)) (length log.new.items + 2) (reverse branches.now) }
     ensures less { length log.new.items ≤ length log.old.items }
 {
     if log.len() >= MANY {
@@ -75,7 +119,7 @@ fn bound_top(values: &[usize], room: &mut [usize], log: &mut Vec<OldValue>, bran
     requires log { IsLogBelow values.now log.old.items branches.now }
     ensures memory { memory_of values.now log.new.items branches.now ≡ memory_of values.now log.old.items branches.now }
     ensures sound { IsSound values.now log.new.items branches.now }
-    ensures one_more { AreMarks (segment_limit (length values.now)) (length log.new.items + 1) (reverse branches.now) }
+    ensures two_more { AreMarks (segment_limit (length values.now)) (length log.new.items + 2) (reverse branches.now) }
     ensures less { length log.new.items ≤ length log.old.items }
 {
     let start = segment_start(branches);
