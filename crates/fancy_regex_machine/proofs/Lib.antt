@@ -6,7 +6,9 @@ pub mod LimitLemmas
 mod AlternativeLoopLemmas
 mod ChoiceLemmas
 mod CountedLoopLemmas
+mod IterationRunLemmas
 mod RoundLemmas
+mod RoundRunLemmas
 mod SpanThreads
 mod SpanMoves
 mod SpanRuns

@@ -2,7 +2,9 @@ pub mod Allowances
 pub mod Steps
 pub mod Advances
 pub mod Endings
+pub mod Iterations
 pub mod Rounds
+pub mod RoundRuns
 pub mod RunArguments
 pub mod MachineLimits
 pub mod SearchAnswers
