@@ -1,12 +1,12 @@
 //! Plain patterns that match wherever another pattern does.
 
-ghost use Rattle.std.specs.Prelude.{◌≡◌, ◌≤◌, true, false, Bool, length, IfOk, IfSome, IsCharBoundary};
+ghost use Rattle.std.specs.Prelude.{◌≡◌, ◌≤◌, true, false, Bool, length, None, IfOk, IfSome, IsCharBoundary};
 ghost use Rattle.fancy_regex_tree.specs.Tree.{Tree, tree_of};
 
 use crate::copy::{begins_after_text, extended, is_relaxable};
 use fancy_regex_analysis::analyze;
 use fancy_regex_class::{RunInput, Steps};
-use fancy_regex_info::{AnalyzeContext, CompileOptions};
+use fancy_regex_info::{AnalyzeContext, CompileError, CompileOptions};
 use fancy_regex_linear::{Easy, SearchMemory};
 use fancy_regex_tree::{Expr, ExprTree};
 use std::alloc::{AllocError, Global};
@@ -53,8 +53,9 @@ impl Relaxed {
             explicit_capture_group_0: false,
             find_not_empty: false,
         };
-        let Ok(info) = analyze(alloc, &tree, context) else {
-            return Ok(None);
+        let info = match analyze(alloc, &tree, context) {
+            Ok(info) => info,
+            Err(error) => return none_unless_memory(error),
         };
         if info.weight > GREATEST_WEIGHT {
             return Ok(None);
@@ -65,7 +66,8 @@ impl Relaxed {
         };
         match Easy::if_supported(alloc, &info, &first) {
             Ok(Some(easy)) => Ok(Some(Relaxed { easy })),
-            Ok(None) | Err(_) => Ok(None),
+            Ok(None) => Ok(None),
+            Err(error) => none_unless_memory(error),
         }
     }
 
@@ -90,5 +92,15 @@ impl Relaxed {
             Some((start, _)) => Ok(Some(start)),
             None => Ok(None),
         }
+    }
+}
+
+/// No plain pattern, unless memory ran out.
+fn none_unless_memory(error: CompileError) -> Result<Option<Relaxed>, AllocError>
+    ensures { IfOk result (λ found. found ≡ None) }
+{
+    match error {
+        CompileError::Memory => Err(AllocError),
+        _ => Ok(None),
     }
 }
