@@ -95,7 +95,8 @@ pub fn called_by_depth(
     expr: &Expr,
     bodies: &[&Expr],
 ) -> Result<Vec<Vec<bool>>, AllocError>
-    ensures { IfOk result (λ tables. AreLevels (map body_tree bodies.now) (greatest_nesting_is (length bodies.now)) (tree_of expr.now) tables.items) }
+    ensures { IfOk result (λ tables.
+        AreLevels (map body_tree bodies.now) (greatest_nesting_is (length bodies.now)) (tree_of expr.now) tables.items) }
 {
     let mut first = vec![in alloc; false; bodies.len()]?;
     mark_calls(expr, &mut first);

@@ -74,8 +74,8 @@ impl StopLanes {
         least(second, self.third.gaps(lanes))
     }
 
-    /// How many of the sixteen bytes from `at` on come before one at which the search stops, where the bytes after them are tested too if it
-    /// stops at one of the sixteen.
+    /// How many of the sixteen bytes from `at` on come before one at which the search stops, where the bytes after them are tested too if
+    /// it stops at one of the sixteen.
     #[inline(always)]
     pub fn pairs_at(self, seconds: StopLanes, bytes: &[u8], at: usize) -> usize
         requires { at + 17 ≤ length bytes.now }
