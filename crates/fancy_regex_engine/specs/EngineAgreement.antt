@@ -14,7 +14,7 @@ use Rattle.fancy_regex_class.specs.declared.input.RunInput.{RunInput}
 use Rattle.fancy_regex_compiler.specs.Programs.{IsProgramOf}
 use Rattle.fancy_regex_machine.specs.SearchAnswers.{Answered}
 use Rattle.fancy_regex_machine.specs.RunArguments.{run_parameters_for}
-use Rattle.fancy_regex_machine.specs.declared.error.RuntimeError.{RuntimeError}
+use Rattle.fancy_regex_machine.specs.RuntimeError.{RuntimeError}
 use Rattle.fancy_regex_machine.specs.declared.search.RunOptions.{RunOptions}
 
 -- the slots of a match, two byte offsets for each group, or None

@@ -4,7 +4,7 @@ use Rattle.std.specs.Prelude.{All, slice_index}
 use Rattle.std.proofs.lemmas.List.{length-set}
 use Rattle.fancy_regex_slots.specs.Memory.{Memory, Thread}
 use Rattle.fancy_regex_program.specs.Machine.{copied}
-use Rattle.fancy_regex_machine.specs.Threads.{KeepsSlotCount}
+use Rattle.fancy_regex_loops.specs.Threads.{KeepsSlotCount}
 
 pub length-copied : (from to n : ℕ) (slots : List ℕ) → length (copied from to n slots) ≡ length slots
 length-copied from to zero slots = refl

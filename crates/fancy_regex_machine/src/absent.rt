@@ -4,11 +4,12 @@ ghost use Rattle.std.specs.Prelude.{◌+◌, ◌^◌, ◌<◌, length, Some, IfO
 ghost use Rattle.fancy_regex_program.specs.Machine.{by_limit, begun, looked, looks, scans, offers};
 ghost use Rattle.fancy_regex_program.specs.Ops.{part_of};
 ghost use Rattle.fancy_regex_prefilter.specs.RunContexts.{setting_of_run};
-ghost use Rattle.fancy_regex_machine.specs.Steps.{IsNotStuck};
-ghost use Rattle.fancy_regex_machine.specs.Threads.{current, move_of, Makes, MakesPart, IsRunnable, KeepsSlotCount};
+ghost use Rattle.fancy_regex_loops.specs.Steps.{IsNotStuck};
+ghost use Rattle.fancy_regex_loops.specs.Threads.{current, Makes, KeepsSlotCount};
+ghost use Rattle.fancy_regex_machine.specs.Moves.{move_of, MakesPart, IsRunnable};
 
-use crate::step::StepOutcome;
-use crate::thread::CurrentThread;
+use fancy_regex_loops::step_outcome::StepOutcome;
+use fancy_regex_loops::thread::CurrentThread;
 use fancy_regex_prefilter::cursor::Cursor;
 use fancy_regex_prefilter::matching::{match_any, position_before};
 use fancy_regex_prefilter::run_context::RunContext;

@@ -6,11 +6,11 @@ ghost use Rattle.fancy_regex_program.specs.Machine as machine;
 ghost use Rattle.fancy_regex_program.specs.Machine.{with_place, enters, comes_back, copied};
 ghost use Rattle.fancy_regex_program.specs.Ops.{place_of};
 ghost use Rattle.fancy_regex_program.specs.ValidPrograms.{HasPlace};
-ghost use Rattle.fancy_regex_machine.specs.Steps.{IsNotStuck};
-ghost use Rattle.fancy_regex_machine.specs.Threads.{current, Makes, KeepsSlotCount};
+ghost use Rattle.fancy_regex_loops.specs.Steps.{IsNotStuck};
+ghost use Rattle.fancy_regex_loops.specs.Threads.{current, Makes, KeepsSlotCount};
 
-use crate::step::StepOutcome;
-use crate::thread::CurrentThread;
+use fancy_regex_loops::step_outcome::StepOutcome;
+use fancy_regex_loops::thread::CurrentThread;
 use fancy_regex_program::Callee;
 use fancy_regex_slots::slots::{Slots, UNSET};
 use std::alloc::AllocError;

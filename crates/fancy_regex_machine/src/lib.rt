@@ -6,28 +6,17 @@
 
 mod absent;
 mod advance;
-mod ahead;
-mod alternative_loops;
 mod calls;
-mod char_loops;
-mod choices;
-mod counted_loops;
-mod error;
-mod failing_places;
-mod iteration_runs;
 mod memory;
-mod round_runs;
-mod rounds;
 mod run_loop;
 mod search;
 mod step;
-mod thread;
 mod work;
 
-pub use error::{Exhausted, RuntimeError};
+pub use fancy_regex_ahead::RuntimeError;
 pub use memory::RunMemory;
 pub use search::{
     ProgramRun, RunOptions, run, run_default, run_in, run_spans, run_spans_in, run_spans_within,
     run_within,
 };
-pub use work::Allowance;
+pub use work::{Allowance, Exhausted};

@@ -1,8 +1,8 @@
 //! The memory that runs share.
 
-use crate::thread::CurrentThread;
 use fancy_regex_class::Steps;
 use fancy_regex_linear::SearchMemory;
+use fancy_regex_loops::thread::CurrentThread;
 use fancy_regex_prefilter::cursor::Cursor;
 use fancy_regex_slots::slots::Slots;
 use std::alloc::Global;

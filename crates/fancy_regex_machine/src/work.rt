@@ -5,6 +5,7 @@ ghost use Rattle.fancy_regex_machine.specs.Allowances.{IsBounded};
 
 use crate::memory::Delegates;
 use fancy_regex_prefilter::cursor::Cursor;
+use thiserror::Error;
 
 /// How much work a run may do. Each time that the run goes back counts one, and one more for each byte that it goes back by, since it reads
 /// a byte again only after it has gone back over it. Each look of a delegated part at the text counts one, and each byte of the newlines
@@ -33,6 +34,11 @@ impl Allowance {
         matches!(self, Allowance::Bounded { .. })
     }
 }
+
+/// A run would have done more work than it was allowed. The program is unchanged and may be run again.
+#[derive(Clone, Copy, Debug, PartialEq, Eq, Error)]
+#[error("allowance exhausted")]
+pub struct Exhausted;
 
 /// What is left of the work that a run may do.
 #[derive(Clone, Copy)]

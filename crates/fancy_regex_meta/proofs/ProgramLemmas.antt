@@ -15,8 +15,8 @@ use Rattle.fancy_regex_machine.specs.ProgramLaws.{first_group_number, RunRequire
 use Rattle.fancy_regex_machine.specs.SearchAnswers.{match_places, found_match, found_choices, Answered, AnsweredSpan}
 use Rattle.fancy_regex_machine.specs.MachineLimits.{MachinePassesLimit}
 use Rattle.fancy_regex_machine.specs.RunArguments.{run_parameters_for, machine_ending, AgreesOnGroups, AgreesOnSpan}
-use Rattle.fancy_regex_machine.specs.declared.error.RuntimeError.{RuntimeError}
-use Rattle.fancy_regex_machine.specs.declared.error.RuntimeError.TheVariants.{StackOverflow, BacktrackLimitExceeded, Memory}
+use Rattle.fancy_regex_machine.specs.RuntimeError.{RuntimeError}
+use Rattle.fancy_regex_machine.specs.RuntimeError.TheVariants.{StackOverflow, BacktrackLimitExceeded, Memory}
 use Rattle.fancy_regex_machine.specs.declared.search.RunOptions.{RunOptions}
 use Rattle.fancy_regex_meta.specs.ErrorConversions.{from_runtime_error}
 use Rattle.fancy_regex_meta.specs.FoundParts.{wanted_parts}

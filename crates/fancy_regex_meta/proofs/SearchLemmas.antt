@@ -14,7 +14,7 @@ use Rattle.fancy_regex_meta.specs.Patterns.{options_in, setting_in}
 use Rattle.fancy_regex_meta.specs.Strategies.{Executes, RunsUnder, is_whole, search_of, run_options_of}
 use Rattle.fancy_regex_meta.specs.PatternMatches.{match_from}
 use Rattle.fancy_regex_meta.specs.MetaMatches.{meta_pattern, meta_match_for, meta_match_from}
-use Rattle.fancy_regex_machine.specs.declared.error.RuntimeError.TheVariants.{BacktrackLimitExceeded, StackOverflow, Memory}
+use Rattle.fancy_regex_machine.specs.RuntimeError.TheVariants.{BacktrackLimitExceeded, StackOverflow, Memory}
 use Rattle.fancy_regex_machine.proofs.LimitLemmas.{MachinePassesLimit-prop}
 use Rattle.fancy_regex_linear.specs.Find.{attempted}
 use Rattle.fancy_regex_meta.specs.SearchLimits.{setting_from, search_at, IsSearchError, IsStrategyError, StrategyStaysInLimits, IsRunError, IsMetaSearchError, starts_tried, meta_uses_easy, meta_tree, meta_starts_tried, run_tried}

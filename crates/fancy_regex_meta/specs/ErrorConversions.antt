@@ -3,8 +3,8 @@ use Rattle.fancy_regex_tree.specs.declared.error.Error as tree
 use Rattle.fancy_regex_tree.specs.declared.error.Error.TheVariants as of_reading
 use Rattle.fancy_regex_info.specs.declared.error.CompileError.{CompileError}
 use Rattle.fancy_regex_info.specs.declared.error.CompileError.TheVariants as of_building
-use Rattle.fancy_regex_machine.specs.declared.error.RuntimeError.{RuntimeError}
-use Rattle.fancy_regex_machine.specs.declared.error.RuntimeError.TheVariants as of_running
+use Rattle.fancy_regex_machine.specs.RuntimeError.{RuntimeError}
+use Rattle.fancy_regex_machine.specs.RuntimeError.TheVariants as of_running
 use Rattle.fancy_regex_meta.specs.declared.error.Error.{Error}
 use Rattle.fancy_regex_meta.specs.declared.error.Error.TheVariants as told
 

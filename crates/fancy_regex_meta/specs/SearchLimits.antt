@@ -13,8 +13,8 @@ use Rattle.fancy_regex_program.specs.Machine.{Ending}
 use Rattle.fancy_regex_compiler.specs.Prog.{Prog}
 use Rattle.fancy_regex_machine.specs.MachineLimits.{MachinePassesLimit}
 use Rattle.fancy_regex_machine.specs.RunArguments.{machine_ending}
-use Rattle.fancy_regex_machine.specs.declared.error.RuntimeError.{RuntimeError}
-use Rattle.fancy_regex_machine.specs.declared.error.RuntimeError.TheVariants.{BacktrackLimitExceeded, StackOverflow, Memory}
+use Rattle.fancy_regex_machine.specs.RuntimeError.{RuntimeError}
+use Rattle.fancy_regex_machine.specs.RuntimeError.TheVariants.{BacktrackLimitExceeded, StackOverflow, Memory}
 use Rattle.fancy_regex_machine.specs.declared.search.RunOptions.{RunOptions}
 use Rattle.fancy_regex_input.specs.SearchInputs.{run_input_of}
 pub use Rattle.fancy_regex_input.specs.SearchInputs.{effective_start}
