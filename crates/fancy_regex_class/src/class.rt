@@ -41,6 +41,9 @@ impl From<AllocError> for ClassError {
 /// The most ranges of a class without a bitmap. A search in so few takes as long as a look into a bitmap.
 const FEW_RANGES: usize = 8;
 
+/// The code of the last character.
+const LAST_CHAR: u32 = 0x10_FFFF;
+
 /// The members of a character class: sorted ranges of code points, the answers for the 128 ASCII characters, and the members below
 /// U+10000 as bits if there are more than a few ranges.
 #[derive(Debug)]
@@ -133,6 +136,17 @@ impl CharClassMatcher {
         ensures { result ≡ true → (c : ℕ) → 128 ≤ c → has self.now c ≡ false }
     {
         self.class.is_within(127)
+    }
+
+    /// Whether it is seen in the last range that every character that is not ASCII is a member.
+    #[inline(always)]
+    pub fn has_all_wide(&self) -> bool
+        ensures { result ≡ true → (c : ℕ) → 128 ≤ c → IsScalar c → has self.now c ≡ true }
+    {
+        match self.class.ranges.last() {
+            Some(last) => last.0 <= 128 && last.1 >= LAST_CHAR,
+            None => false,
+        }
     }
 
     /// For each ASCII character, by its code, whether the class contains it.

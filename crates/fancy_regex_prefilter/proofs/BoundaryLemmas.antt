@@ -116,6 +116,21 @@ no_place text p uncut = (elim (is_valid_offset text p) as (λ b. is_valid_offset
 pub one_back : (text : List ℕ) (n m p c : ℕ) → n ≡ suc m → char_before text p ≡ Some c → position_before text n p ≡ position_before text m (p - len_utf8 c)
 one_back text n m p c e found = ap (λ k. position_before text k p) e ∙ ap (option_and_then (λ d. position_before text m (p - len_utf8 d))) found
 
+-- a step back, and the rest of the way
+pub goes_back : (text : List ℕ) (n m p q : ℕ) → n ≡ suc m → Some q ≡ position_before text 1 p → position_before text n p ≡ position_before text m q
+goes_back text n m p q e is = ap (λ k. position_before text k p) e ∙ by_char (char_before text p) is
+  where
+    by_char : (o : Option ℕ) → Some q ≡ option_and_then (λ c. position_before text 0 (p - len_utf8 c)) o → option_and_then (λ c. position_before text m (p - len_utf8 c)) o ≡ position_before text m q
+    by_char None is = absurd (none-some q (sym is))
+    by_char (Some c) is = ap (position_before text m) (sym (same_Some q _ is))
+
+pub goes_nowhere : (text : List ℕ) (n m p : ℕ) → n ≡ suc m → None ≡ position_before text 1 p → None ≡ position_before text n p
+goes_nowhere text n m p e is = by_char (char_before text p) is ∙ sym (ap (λ k. position_before text k p) e)
+  where
+    by_char : (o : Option ℕ) → None ≡ option_and_then (λ c. position_before text 0 (p - len_utf8 c)) o → None ≡ option_and_then (λ c. position_before text m (p - len_utf8 c)) o
+    by_char None is = refl
+    by_char (Some c) is = absurd (none-some _ is)
+
 pub place_by_test : (text : List ℕ) (p : ℕ) (b : Bool) → IsTrue b ↔ IsCharBoundary text p → b ≡ is_valid_offset text p
 place_by_test text p true test = sym (place_of_cut text p (test.0 refl))
 place_by_test text p false test = sym (no_place text p (λ cut. false≢true (test.1 cut)))

@@ -4,6 +4,8 @@ pub mod BoundaryLemmas
 pub mod CharLoops
 pub mod RepeatedCharacterLemmas
 pub mod FailingPlaces
+pub mod FirstBytes
+pub mod RefusalLemmas
 pub mod FailingStarts
 pub mod StartsInRow
 pub mod LookBehindStarts

@@ -2,10 +2,13 @@ pub mod RunContexts
 pub mod Runs
 pub mod LookBehindStarts
 pub mod CharLoops
+pub mod FirstBytes
+pub mod Refusals
 pub mod Readers
 pub mod Walks
 pub mod Ahead
 pub mod LeadingLoops
 pub mod Backrefs
+pub mod Bytes
 pub mod RepeatedCharacters
 pub mod Passing

@@ -1,7 +1,7 @@
 //! Matching of single characters and literals at a byte offset. Each function answers the offset after the match, or
 //! `None`.
 
-ghost use Rattle.std.specs.Prelude.{◌≡◌, ◌+◌, ◌^◌, ◌<◌, ◌≤◌, Some, IfSome, chars, length};
+ghost use Rattle.std.specs.Prelude.{◌≡◌, ◌+◌, ◌^◌, ◌<◌, ◌≤◌, Some, IfSome, IsTrue, chars, length};
 ghost use Rattle.std.specs.Char.{len_utf8};
 ghost use Rattle.std.specs.Str.{IsCharBoundary};
 ghost use Rattle.regex_hir.specs.Text as hir_text;
@@ -10,6 +10,8 @@ ghost use Rattle.fancy_regex_meaning.specs.Ways.{is_any};
 ghost use Rattle.fancy_regex_class.specs.Matchers.{has, equals_ignoring_case};
 ghost use Rattle.fancy_regex_program.specs.Machine as machine;
 ghost use Rattle.fancy_regex_program.specs.Ops.{among_scalars};
+ghost use Rattle.fancy_regex_prefilter.specs.Bytes.{BeginOtherwise};
+ghost use Rattle.fancy_regex_prefilter.specs.FirstBytes.{IsFirstByte};
 ghost use Rattle.fancy_regex_prefilter.specs.RunContexts.{setting_of_run};
 
 use crate::run_context::RunContext;
@@ -48,6 +50,22 @@ pub fn ascii_at(text: &str, position: usize) -> Option<char>
         return None;
     }
     Some(byte as char)
+}
+
+/// The byte at the byte offset `position`, if a character begins with it.
+#[inline(always)]
+pub(crate) fn first_byte_at(text: &str, position: usize) -> Option<u8>
+    ensures begins { IfSome result (IsFirstByte text.now position) }
+    ensures room { IfSome result (λ _. position + 4 < 2 ^ 64) }
+{
+    let byte = *text.as_bytes().get(position)?;
+    if byte < 128 {
+        return Some(byte);
+    }
+    if byte < 192 {
+        return None;
+    }
+    Some(byte)
 }
 
 /// The ASCII character at the byte offset `position`, if there is one. The text may be cut after it.
@@ -102,22 +120,51 @@ pub fn position_before(text: &str, count: usize, position: usize) -> Option<usiz
     let mut cursor = position;
     for back in 0..count {
         let _ = back;
-        let c = char_before(text, cursor)?;
-        cursor -= c.len_utf8();
+        let before = one_back(text, cursor)?;
+        cursor = before;
     }
     Some(cursor)
 }
 
+/// The byte offset one character before `position`, if the text has one there.
+#[inline(always)]
+fn one_back(text: &str, position: usize) -> Option<usize>
+    ensures { result ≡ places.position_before text.now 1 position }
+{
+    match ascii_before(text, position) {
+        Some(_) => Some(position - 1),
+        None => {
+            let c = wide_before(text, position)?;
+            Some(position - c.len_utf8())
+        }
+    }
+}
+
 /// The byte offset after the literal `wanted` if it occurs at `position`.
+#[inline(always)]
 pub fn match_text(text: &str, wanted: &str, position: usize) -> Option<usize>
     requires { position ≤ length text.now }
     ensures { result ≡ machine.match_text text.now (chars wanted.now) position }
 {
     let rest = &text.as_bytes()[position..];
+    if begins_otherwise(rest, wanted.as_bytes()) {
+        return None;
+    }
     if rest.starts_with(wanted.as_bytes()) {
         Some(position + wanted.len())
     } else {
         None
+    }
+}
+
+/// Whether both have a first byte, and these differ.
+#[inline(always)]
+fn begins_otherwise(rest: &[u8], wanted: &[u8]) -> bool
+    ensures { IsTrue result → BeginOtherwise wanted.now rest.now }
+{
+    match (wanted.get(0), rest.get(0)) {
+        (Some(a), Some(b)) => *a != *b,
+        _ => false,
     }
 }
 
