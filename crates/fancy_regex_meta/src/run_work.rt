@@ -64,10 +64,9 @@ impl RunWork {
     }
 
     /// Begins a search from this byte offset on. The first search of a text may do as much as all later ones have besides what they come
-    /// on by, and so may each one that shares no work with others. A later search may first do as much as it has come on by, or what the
-    /// runs before it needed, if that is more.
+    /// on by. A later search may first do as much as it has come on by, or what the runs before it needed, if that is more.
     #[inline(always)]
-    pub(crate) fn begin(&mut self, text: &str, first: usize, shares: bool) {
+    pub(crate) fn begin(&mut self, text: &str, first: usize) {
         let rest = text.len().saturating_sub(first) as u64;
         let whole = FIRST_WORK.saturating_add(rest.saturating_mul(WORK_PER_TEXT_BYTE));
         let distance = first.saturating_sub(self.place) as u64;
@@ -77,7 +76,7 @@ impl RunWork {
         } else {
             whole
         };
-        self.shared = self.begun && shares;
+        self.shared = self.begun;
         self.share = if self.shared {
             self.next_share.max(earned).min(self.left)
         } else {

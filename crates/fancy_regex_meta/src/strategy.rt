@@ -320,13 +320,6 @@ fn run_in_shares(
     Err(Exhausted)
 }
 
-/// Whether a search shares the work that runs may do with the other searches of its text. One with a walk of the states along the match,
-/// which writes the groups or where `\K` stood, does not where that may go further than the match: that takes longer than a run.
-fn shares_work(regular: &Regular, wanted: MatchDetail) -> bool {
-    let walks = matches!(wanted, MatchDetail::Groups) || regular.resets_start();
-    !walks || !regular.asks_for_groups()
-}
-
 /// The first match of a pattern with states: by its program, as long as that stays within the work that it may do and meets no limit, and
 /// else by the states. The error is want of memory.
 #[inline(always)]
@@ -351,9 +344,7 @@ fn search_by_either(
     ensures memory { IfErr result (λ e. e ≡ told.Memory) }
     ensures kept { IsKeptOf regular.now text.now memory.new.parts }
 {
-    memory
-        .work
-        .begin(text, input.first, shares_work(regular, wanted));
+    memory.work.begin(text, input.first);
     if !memory.work.is_spent() {
         let runs = &mut memory.program;
         let work = &mut memory.work;
@@ -612,7 +603,7 @@ impl Strategy {
                 Ok(found)
             }
             Strategy::Program { prog, run_options } => {
-                memory.work.begin(text, input.first, false);
+                memory.work.begin(text, input.first);
                 let run = ProgramRun {
                     prog,
                     options: run_options,

@@ -12,5 +12,6 @@ pub mod EmittedLemmas
 pub mod FindLemmas
 pub mod BetweenLemmas
 pub mod WriteLemmas
-pub mod FillLemmas
+pub mod ListLemmas
 pub mod WalkLemmas
+pub mod TaskLemmas

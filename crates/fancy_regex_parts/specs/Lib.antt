@@ -5,4 +5,5 @@ pub mod Frames
 pub mod Layers
 pub mod Find
 pub mod Does
+pub mod Writes
 pub mod Walk

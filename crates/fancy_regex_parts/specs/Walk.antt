@@ -1,5 +1,5 @@
 -- A walk along a first way and into its parts.
-use Rattle.std.specs.Prelude.{◌≡◌, ℕ, ◌+◌, ◌-◌, ◌*◌, ◌/◌, ◌%◌, ◌<◌, ◌≤◌, ◌⊎◌, Bool, true, false, List, [], ◌∷◌, ◌++◌, length, max, Option, Some, None, if◌then◌else◌, nat_eq, nat_le, slice_index_or, slice_set}
+use Rattle.std.specs.Prelude.{◌≡◌, ℕ, ◌+◌, ◌-◌, ◌*◌, ◌/◌, ◌%◌, ◌<◌, ◌≤◌, ◌⊎◌, true, false, List, [], ◌∷◌, ◌++◌, length, max, Option, Some, None, slice_index_or}
 use Rattle.std.specs.Char.{len_utf8}
 use Rattle.fancy_regex_states.specs.Attempts.{View, Trace, Continuation, ShowsAll}
 use Rattle.fancy_regex_states.specs.First.{state_at}
@@ -7,15 +7,19 @@ use Rattle.fancy_regex_states.specs.declared.state.State.{State}
 use Rattle.fancy_regex_states.specs.declared.state.State.TheVariants.{Split, Enter, Leave, Ask, Atomic, Match}
 use Rattle.fancy_regex_states.specs.declared.state.State.TheVariants as S
 use Rattle.fancy_regex_parts.specs.Ways.{Ways, ways_of, text_view, state_after, place_after}
-use Rattle.fancy_regex_parts.specs.Tables.{mark_of, due, owed, known_cost, lowest_of, table_weight}
+use Rattle.fancy_regex_parts.specs.Tables.{mark_of, due, owed, known_cost, may_write, table_weight}
 use Rattle.fancy_regex_parts.specs.Recall.{cell, cell_number, IsSame, IsOpened}
 use Rattle.fancy_regex_parts.specs.Frames.{IsInReach, cell_depth}
 use Rattle.fancy_regex_parts.specs.Does.{DoWhat}
+use Rattle.fancy_regex_parts.specs.Layers.{IsTrueOf}
+use Rattle.fancy_regex_parts.specs.Writes.{SameWrites, list_of}
 use Rattle.fancy_regex_parts.specs.declared.recall.Recall.{Recall}
 use Rattle.fancy_regex_parts.specs.declared.step.PartContext.{PartContext}
 use Rattle.fancy_regex_parts.specs.declared.table.PartTable.{PartTable}
 use Rattle.fancy_regex_parts.specs.declared.groups.WalkTask.{WalkTask}
-use Rattle.fancy_regex_parts.specs.declared.groups.WalkTask.TheVariants.{Follow, Start, End}
+use Rattle.fancy_regex_parts.specs.declared.groups.WalkMemory.{WalkMemory}
+use Rattle.fancy_regex_parts.specs.declared.groups.WalkTask.TheVariants.{Follow, Part, Join, Keep, Start, End}
+use Rattle.fancy_regex_parts.specs.declared.writes.Write.{Write}
 
 -- the states of a context do in the text what `go` says, and the view shows the text
 pub record IsTried (context : PartContext) (text : List ℕ) (view : View) (go : ℕ → Continuation) : Type 0 where
@@ -26,25 +30,6 @@ pub record IsTried (context : PartContext) (text : List ℕ) (view : View) (go :
 -- no state that a walk from this entry comes to takes more looks for a step
 unfoldable pub dearest : PartTable → ℕ → ℕ
 dearest table entry = max table.most (due table entry)
-
--- the slots after these writes
-unfoldable pub apply : List (ℕ × ℕ) → List ℕ → List ℕ
-apply [] slots = slots
-apply (w ∷ ws) slots = apply ws (slice_set slots w.0 w.1)
-
--- the slots after a write to a slot that keeps its value if it is set
-abbrev pub keep : List ℕ → ℕ → ℕ → List ℕ
-keep slots slot at = if nat_eq (slice_index_or slots slot 0) 18446744073709551615 then slice_set slots slot at else slots
-
--- the slots after these writes, the last one first, where a slot that is set keeps its value
-unfoldable pub fill : List (ℕ × ℕ) → List ℕ → List ℕ
-fill [] slots = slots
-fill (w ∷ ws) slots = keep (fill ws slots) w.0 w.1
-
--- each slot of these writes is set, or not there
-abbrev pub AreSet : List (ℕ × ℕ) → List ℕ → Type 0
-AreSet [] slots = Unit {0}
-AreSet (w ∷ ws) slots = (nat_eq (slice_index_or slots w.0 0) 18446744073709551615 ≡ false) × AreSet ws slots
 
 -- the tasks with the next one first
 unfoldable pub last_first : List WalkTask → List WalkTask
@@ -67,7 +52,7 @@ branch_of first second (Some e) = first
 
 abbrev pub group_tasks : ℕ → ℕ → ℕ → ℕ → Option ℕ → List WalkTask
 group_tasks part same moved at None = []
-group_tasks part same moved at (Some e) = Follow (state_after at same moved e) (place_after at e) ∷ Follow part at ∷ []
+group_tasks part same moved at (Some e) = Follow (state_after at same moved e) (place_after at e) ∷ Part part at ∷ []
 
 abbrev pub tasks_at : State → ℕ → Option ℕ → Option ℕ → Option ℕ → List WalkTask
 tasks_at (S.Read leaf next) at before after end = read_tasks next at after
@@ -76,7 +61,7 @@ tasks_at (S.Back next) at before after end = back_tasks next at before
 tasks_at (Split first second) at before after end = Follow (branch_of first second end) at ∷ []
 tasks_at (Enter g next) at before after end = Follow next at ∷ Start g at ∷ []
 tasks_at (Leave g next) at before after end = Follow next at ∷ End g at ∷ []
-tasks_at (Ask part false next) at before after end = Follow next at ∷ Follow part at ∷ []
+tasks_at (Ask part false next) at before after end = Follow next at ∷ Part part at ∷ []
 tasks_at (Ask part true next) at before after end = Follow next at ∷ []
 tasks_at (Atomic part same moved) at before after end = group_tasks part same moved at end
 tasks_at Match at before after end = []
@@ -89,35 +74,57 @@ part_end_of ways _ at = None
 abbrev pub walk_tasks : Ways → Option ℕ → Option ℕ → State → ℕ → List WalkTask
 walk_tasks ways before after state at = tasks_at state at before after (part_end_of ways state at)
 
--- where a state with this mark is met: whether it is met there for the first time
-abbrev pub IsMet : Recall → Recall → ℕ → Option ℕ → Bool → Type 0
-IsMet old new at None first = (first ≡ true) × IsSame old new
-IsMet old new at (Some mark) true = IsOpened old new (cell_number old mark at)
-IsMet old new at (Some mark) false = (1 ≤ cell old (cell_number old mark at)) × IsSame old new
+-- Where a state with this mark is met, and what is found: the list of what the way from there writes, if that is known. If not, it is kept
+-- when it is; no way comes to a pair of which nothing is known yet.
+abbrev pub IsMet : WalkMemory → WalkMemory → ℕ → Option ℕ → Option ℕ → Type 0
+IsMet old new at None None = (new.visited ≡ old.visited) × (last_first new.tasks.items ≡ last_first old.tasks.items)
+IsMet old new at None (Some n) = ⊥
+IsMet old new at (Some mark) None =
+    IsOpened old.visited new.visited (cell_number old.visited mark at)
+    × (last_first new.tasks.items ≡ Keep (cell_number old.visited mark at) ∷ last_first old.tasks.items)
+IsMet old new at (Some mark) (Some n) =
+    IsSame old.visited new.visited
+    × ((last_first new.tasks.items ≡ last_first old.tasks.items)
+    × (((cell old.visited (cell_number old.visited mark at) ≡ 1) × (n ≡ 0)) ⊎ (cell old.visited (cell_number old.visited mark at) ≡ n + 2)))
 
-abbrev pub IsArrival : PartTable → Recall → Recall → ℕ → ℕ → Bool → Type 0
-IsArrival table old new q at first = IsMet old new at (mark_of table q) first
+abbrev pub IsArrival : PartTable → WalkMemory → WalkMemory → ℕ → ℕ → Option ℕ → Type 0
+IsArrival table old new q at found = IsMet old new at (mark_of table q) found
 
--- the pairs where a walk has been are in the text, from the first row on
-pub record IsVisitedWithin (table : PartTable) (len base : ℕ) (visited : Recall) : Type 0 where
-  pub width_is : visited.width ≡ length table.heads.items
-  pub base_is : visited.base ≡ base
-  pub rows : visited.rows ≤ len - base + 1
+-- what is left, and written, where a part is come to
+abbrev pub EntersPart : PartTable → ℕ → ℕ → ℕ → List WalkTask → List WalkTask → ℕ → Type 0
+EntersPart table q at written old new list =
+    ((may_write table.writes.items q ≡ false) × ((new ≡ old) × (list ≡ written)))
+    ⊎ ((new ≡ Follow q at ∷ Join written ∷ old) × (list ≡ 0))
 
--- q is a state, and i a place from which neither the memory nor the walk, whose rows begin at `lowest`, is asked about a byte offset
--- without a row
-pub record IsReached (table : PartTable) (text : List ℕ) (base lowest q i : ℕ) : Type 0 where
-  pub reach : IsInReach table text base q i
-  pub low : lowest ≤ lowest_of table q i
+-- The memory of walks is of these parts, a text of this length and places from `base` on: a row has a cell for each mark, and the lists are
+-- there.
+pub record IsWalkedIn (table : PartTable) (len base : ℕ) (walked : WalkMemory) : Type 0 where
+  pub width : walked.visited.width ≡ length table.heads.items
+  pub base_is : walked.visited.base ≡ base
+  pub rows : walked.visited.rows ≤ len - base + 1
+  pub lists : (k n : ℕ) → cell walked.visited k ≡ n + 2 → n ≤ walked.lists.held
+  pub held : walked.lists.held ≤ length walked.lists.writes.items
 
-module _ (table : PartTable) (text : List ℕ) (base lowest dear : ℕ) where
+-- what the task leads to is a state at a place that the walk may come to
+abbrev pub IsAt : PartTable → List ℕ → ℕ → WalkTask → Type 0
+IsAt table text base (Follow q i) = IsInReach table text base q i
+IsAt table text base (Part q i) = IsInReach table text base q i
+IsAt table text base (Join n) = Unit {0}
+IsAt table text base (Keep k) = Unit {0}
+IsAt table text base (Start g i) = Unit {0}
+IsAt table text base (End g i) = Unit {0}
+
+module _ (table : PartTable) (text : List ℕ) (base dear : ℕ) where
   -- the task is of a state and a place that the walk can come to, and what is due for the state is not more than `dear`
   pub record IsFollowed (q i : ℕ) : Type 0 where
-    pub reached : IsReached table text base lowest q i
+    pub reached : IsInReach table text base q i
     pub cheap : due table q ≤ dear
 
   abbrev pub IsTaskOf : WalkTask → Type 0
   IsTaskOf (Follow q i) = IsFollowed q i
+  IsTaskOf (Part q i) = IsFollowed q i
+  IsTaskOf (Join n) = Unit {0}
+  IsTaskOf (Keep k) = Unit {0}
   IsTaskOf (Start g i) = i ≤ length text
   IsTaskOf (End g i) = i ≤ length text
 
@@ -125,10 +132,26 @@ module _ (table : PartTable) (text : List ℕ) (base lowest dear : ℕ) where
   AllTasksWithin [] = Unit {0}
   AllTasksWithin (x ∷ rest) = IsTaskOf x × AllTasksWithin rest
 
+-- how many tasks are done for one, but for the states that are followed
+abbrev pub task_size : WalkTask → ℕ
+task_size (Follow q i) = 1
+task_size (Part q i) = 3
+task_size (Join n) = 1
+task_size (Keep k) = 1
+task_size (Start g i) = 1
+task_size (End g i) = 1
+
+unfoldable pub tasks_size : List WalkTask → ℕ
+tasks_size [] = 0
+tasks_size (x ∷ rest) = task_size x + tasks_size rest
+
 module _ (table : PartTable) where
   -- what is due for the states that are left to be followed
   abbrev pub task_due : WalkTask → ℕ
   task_due (Follow q i) = due table q
+  task_due (Part q i) = due table q
+  task_due (Join n) = 0
+  task_due (Keep k) = 0
   task_due (Start g i) = 0
   task_due (End g i) = 0
 
@@ -141,14 +164,14 @@ module _ (table : PartTable) where
   looks_left len start visited tasks = tasks_due tasks + ((len - start + 1) * table_weight table - known_cost table visited)
 
   abbrev pub work_left : ℕ → ℕ → Recall → List WalkTask → ℕ
-  work_left len start visited tasks = 2 * looks_left len start visited tasks + length tasks
+  work_left len start visited tasks = 8 * looks_left len start visited tasks + tasks_size tasks
 
   -- what following the state q at a place leaves to be done
   pub record AreLeft (text : List ℕ) (base q at : ℕ) (old new : List WalkTask) : Type 0 where
-    pub within : (lowest dear : ℕ) → lowest ≤ lowest_of table q at → owed table (state_at table.states.items q) ≤ dear
-        → AllTasksWithin table text base lowest dear old → AllTasksWithin table text base lowest dear new
+    pub within : (dear : ℕ) → owed table (state_at table.states.items q) ≤ dear
+        → AllTasksWithin table text base dear old → AllTasksWithin table text base dear new
     pub due_is : tasks_due new ≤ owed table (state_at table.states.items q) + tasks_due old
-    pub few : length new ≤ length old + 2
+    pub few : tasks_size new ≤ tasks_size old + 4
 
 -- what the way of an attempt writes
 abbrev pub trace_writes : Option Trace → List (ℕ × ℕ)
@@ -162,6 +185,9 @@ HasTrace (Some t) = Unit {0}
 module _ (go : ℕ → Continuation) where
   abbrev pub task_writes : WalkTask → List (ℕ × ℕ)
   task_writes (Follow q i) = trace_writes (go q i).answer
+  task_writes (Part q i) = trace_writes (go q i).answer
+  task_writes (Join n) = []
+  task_writes (Keep k) = []
   task_writes (Start g i) = (2 * g, i) ∷ []
   task_writes (End g i) = (2 * g + 1, i) ∷ []
 
@@ -171,28 +197,80 @@ module _ (go : ℕ → Continuation) where
   all_writes (x ∷ rest) = all_writes rest ++ task_writes x
 
   -- each state that is left to be followed has a way
+  abbrev pub HasWay : WalkTask → Type 0
+  HasWay (Follow q i) = HasTrace (go q i).answer
+  HasWay (Part q i) = HasTrace (go q i).answer
+  HasWay (Join n) = Unit {0}
+  HasWay (Keep k) = Unit {0}
+  HasWay (Start g i) = Unit {0}
+  HasWay (End g i) = Unit {0}
+
   abbrev pub HaveWays : List WalkTask → Type 0
   HaveWays [] = Unit {0}
-  HaveWays (Follow q i ∷ rest) = HasTrace (go q i).answer × HaveWays rest
-  HaveWays (Start g i ∷ rest) = HaveWays rest
-  HaveWays (End g i ∷ rest) = HaveWays rest
+  HaveWays (x ∷ rest) = HasWay x × HaveWays rest
 
   abbrev pub IsBelow : ℕ → WalkTask → Type 0
   IsBelow d (Follow q i) = (go q i).depth < d
+  IsBelow d (Part q i) = (go q i).depth < d
+  IsBelow d (Join n) = Unit {0}
+  IsBelow d (Keep k) = Unit {0}
   IsBelow d (Start g i) = Unit {0}
   IsBelow d (End g i) = Unit {0}
 
-  -- At some point of these tasks all these writes are done, and up to there the tasks are below d.
-  abbrev pub AreDone : ℕ → List (ℕ × ℕ) → List WalkTask → List ℕ → Type 0
-  AreDone d ws [] slots = AreSet ws slots
-  AreDone d ws (x ∷ rest) slots = AreSet ws slots ⊎ (IsBelow d x × AreDone d ws rest (fill (task_writes x) slots))
+-- what the way from the pair of this cell writes is to be kept
+abbrev pub IsKept : ℕ → List WalkTask → Type 0
+IsKept k [] = ⊥
+IsKept k (Follow q i ∷ rest) = IsKept k rest
+IsKept k (Part q i ∷ rest) = IsKept k rest
+IsKept k (Join n ∷ rest) = IsKept k rest
+IsKept k (Keep j ∷ rest) = (k ≡ j) ⊎ IsKept k rest
+IsKept k (Start g i ∷ rest) = IsKept k rest
+IsKept k (End g i ∷ rest) = IsKept k rest
 
-  -- what the pair of a cell writes
-  abbrev pub cell_writes : List ℕ → ℕ → ℕ → List (ℕ × ℕ)
-  cell_writes heads base k = trace_writes (go (slice_index_or heads (k % length heads) 0) (base + k / length heads)).answer
+module _ (go : ℕ → Continuation) (heads : List ℕ) (base : ℕ) where
+  -- what the way from the pair of a cell writes
+  abbrev pub cell_writes : ℕ → List (ℕ × ℕ)
+  cell_writes k = trace_writes (go (slice_index_or heads (k % length heads) 0) (base + k / length heads)).answer
 
-  -- The tasks lead to the wanted slots, and what a pair writes where the walk has been is written before the walk comes there again.
-  pub record IsWalking (heads : List ℕ) (base : ℕ) (visited : Recall) (goal slots : List ℕ) (tasks : List WalkTask) : Type 0 where
-    pub left : fill (all_writes tasks) slots ≡ goal
-    pub have_ways : HaveWays tasks
-    pub done : (k : ℕ) → 1 ≤ cell visited k → AreDone (cell_depth (ways_of go) heads base k) (cell_writes heads base k) tasks slots
+  -- each pair that is to be kept is deeper than d
+  abbrev pub IsBelowKept : ℕ → List WalkTask → Type 0
+  IsBelowKept d [] = Unit {0}
+  IsBelowKept d (Follow q i ∷ rest) = IsBelowKept d rest
+  IsBelowKept d (Part q i ∷ rest) = IsBelowKept d rest
+  IsBelowKept d (Join n ∷ rest) = IsBelowKept d rest
+  IsBelowKept d (Keep k ∷ rest) = (d < cell_depth (ways_of go) heads base k) × IsBelowKept d rest
+  IsBelowKept d (Start g i ∷ rest) = IsBelowKept d rest
+  IsBelowKept d (End g i ∷ rest) = IsBelowKept d rest
+
+  module _ (writes : List Write) where
+    -- The tasks make the goal of what is written; on the way what each pair writes is kept, and what is followed is below the pairs that
+    -- are to be kept.
+    abbrev pub Leads : List WalkTask → List (ℕ × ℕ) → List (ℕ × ℕ) → Type 0
+    Leads [] ws goal = SameWrites ws goal
+    Leads (Follow q i ∷ rest) ws goal =
+        HasTrace (go q i).answer × (IsBelowKept (go q i).depth rest × Leads rest (trace_writes (go q i).answer) goal)
+    Leads (Part q i ∷ rest) ws goal =
+        HasTrace (go q i).answer × (IsBelowKept (go q i).depth rest × Leads rest (trace_writes (go q i).answer ++ ws) goal)
+    Leads (Join n ∷ rest) ws goal = (n ≤ length writes) × Leads rest (ws ++ list_of writes n) goal
+    Leads (Keep k ∷ rest) ws goal = SameWrites ws (cell_writes k) × Leads rest ws goal
+    Leads (Start g i ∷ rest) ws goal = Leads rest ((2 * g, i) ∷ ws) goal
+    Leads (End g i ∷ rest) ws goal = Leads rest ((2 * g + 1, i) ∷ ws) goal
+
+    -- what the cells say is true, but for those of the pairs that are to be kept
+    pub record AreWritten (visited : Recall) (tasks : List WalkTask) : Type 0 where
+      pub opened : (k : ℕ) → cell visited k ≡ 1 → IsKept k tasks
+      pub known : (k n : ℕ) → cell visited k ≡ n + 2 → SameWrites (list_of writes n) (cell_writes k)
+
+    -- the state of a walk that is to write this, where the list of the number `written` is written
+    pub record IsWalking (visited : Recall) (tasks : List WalkTask) (written : ℕ) (goal : List (ℕ × ℕ)) : Type 0 where
+      pub leads : Leads tasks (list_of writes written) goal
+      pub cells : AreWritten visited tasks
+
+-- what walks have found out is true of what the states do
+abbrev pub AreWalked : (ℕ → Continuation) → List ℕ → WalkMemory → Type 0
+AreWalked go heads walked = AreWritten go heads walked.visited.base walked.lists.writes.items walked.visited []
+
+-- this holds of all that the states may do in the text, where what the memory remembers of it is true
+abbrev pub ForTried : PartContext → List ℕ → Recall → ((ℕ → Continuation) → Type 0) → Type 0
+ForTried context text recall Holds = (view : View) (go : ℕ → Continuation) → IsTried context text view go
+    → IsTrueOf context (ways_of go) recall → Holds go

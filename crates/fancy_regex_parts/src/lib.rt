@@ -13,6 +13,7 @@ mod recall;
 mod starts;
 mod step;
 mod table;
+mod writes;
 
 pub use groups::{WalkMemory, walk};
 pub use memory::PartMemory;

@@ -43,6 +43,13 @@ impl PartMemory {
         self.stack.clear();
     }
 
+    /// The least byte offset that it may be asked about.
+    pub(crate) fn base(&self) -> usize
+        ensures { result ≡ self.now.recall.base }
+    {
+        self.recall.base()
+    }
+
     /// Whether nothing is known of the byte offset `at`, nor of a later one: there is no row for it.
     pub fn ends_before(&self, at: usize) -> bool
         ensures { result ≡ true → self.now.recall.rows ≤ at - self.now.recall.base }

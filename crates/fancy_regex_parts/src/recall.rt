@@ -72,6 +72,13 @@ impl Recall {
         self.rows = 0;
     }
 
+    /// The byte offset of the first row.
+    pub fn base(&self) -> usize
+        ensures { result ≡ self.now.base }
+    {
+        self.base
+    }
+
     /// Whether there is no row for the byte offset `at`, nor for a later one.
     pub fn ends_before(&self, at: usize) -> bool
         ensures { result ≡ true → self.now.rows ≤ at - self.now.base }

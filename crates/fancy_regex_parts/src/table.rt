@@ -136,23 +136,6 @@ impl PartTable {
         may_write(&self.writes, state)
     }
 
-    /// Whether a part that has to have a way may write a slot: then a walk may go further than the match does. No clause says so.
-    pub fn asks_for_slots(&self) -> bool {
-        for q in 0..self.states.len() {
-            if let State::Ask {
-                part,
-                negated: false,
-                ..
-            } = self.states[q]
-            {
-                if self.may_write(part) {
-                    return true;
-                }
-            }
-        }
-        false
-    }
-
     /// What it costs to try this state.
     fn cost(&self, state: usize) -> usize
         ensures { result ≡ cost_of self.now state }

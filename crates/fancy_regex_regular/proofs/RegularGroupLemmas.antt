@@ -11,7 +11,8 @@ use Rattle.fancy_regex_class.specs.declared.input.RunInput.{RunInput}
 use Rattle.fancy_regex_states.specs.Attempts.{View, Trace, Continuation, ShowsAll}
 use Rattle.fancy_regex_parts.specs.Layers.{HasWays}
 use Rattle.fancy_regex_parts.specs.Does.{DoWhat}
-use Rattle.fancy_regex_parts.specs.Walk.{IsTried, apply as walk_apply}
+use Rattle.fancy_regex_parts.specs.Walk.{IsTried}
+use Rattle.fancy_regex_parts.specs.Writes.{apply as walk_apply}
 use Rattle.fancy_regex_parts.specs.Ways.{Ways, Explains, text_view}
 use Rattle.fancy_regex_parts.specs.declared.step.PartContext.{PartContext}
 use Rattle.fancy_regex_parts.proofs.BetweenLemmas.{AllBy}

@@ -2,7 +2,7 @@
 use Rattle.std.proofs.Common.{◌≡◌, ◌∙◌, ℕ, zero, suc, ◌^◌, ◌<◌, ◌≤◌, Bool, true, false, true≢false, not, cond, List, [], ◌∷◌, length, replicate, if◌then◌else◌, slice_set, set, refl, sym, ap, arith}
 use Rattle.std.proofs.lemmas.Bool.{ne_eqb}
 use Rattle.std.proofs.lemmas.List.{length-set, length-replicate}
-use Rattle.fancy_regex_parts.specs.Walk.{apply}
+use Rattle.fancy_regex_parts.specs.Writes.{apply}
 use Rattle.fancy_regex_parts.proofs.BetweenLemmas.{AllBy}
 use Rattle.fancy_regex_linear.specs.RegularStates.{started, ended}
 use Rattle.fancy_regex_regular.specs.Walks.{reset_start, told_slots}

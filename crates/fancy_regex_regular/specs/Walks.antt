@@ -1,14 +1,16 @@
 -- Walks along the attempt that finds a match, and what their slots tell.
-use Rattle.std.specs.Prelude.{◌≡◌, ◌*◌, ◌≤◌, ◌==◌, ℕ, Bool, true, List, [], ◌∷◌, Some, length, option_map, slice_set, if◌then◌else◌, IsCharBoundary}
+use Rattle.std.specs.Prelude.{◌≡◌, ◌*◌, ◌≤◌, ◌==◌, ℕ, Bool, true, List, [], ◌∷◌, Some, None, length, option_map, slice_set, if◌then◌else◌, IsCharBoundary}
 use Rattle.fancy_regex_meaning.specs.Groups.{Pattern}
 use Rattle.fancy_regex_meaning.specs.Searches.{first_match}
 use Rattle.fancy_regex_class.specs.RunInputs.{setting_for, search_for, match_slots}
 use Rattle.fancy_regex_class.specs.declared.input.RunInput.{RunInput}
+use Rattle.fancy_regex_states.specs.Attempts.{View}
 use Rattle.fancy_regex_parts.specs.Frames.{IsInReach}
+use Rattle.fancy_regex_parts.specs.Ways.{Ways, Explains}
 use Rattle.fancy_regex_linear.specs.Calls.{has_own_span}
 use Rattle.fancy_regex_linear.specs.EasyPatterns.{span_of_match}
 use Rattle.fancy_regex_regular.specs.Inputs.{MemoryServes}
-use Rattle.fancy_regex_regular.specs.Regulars.{IsRegularOf, continue_place, lowest_asked}
+use Rattle.fancy_regex_regular.specs.Regulars.{IsRegularOf, continue_place, ends_from, lowest_asked, rules_at}
 use Rattle.fancy_regex_regular.specs.declared.memory.RegularMemory.{RegularMemory}
 use Rattle.fancy_regex_regular.specs.declared.regular.Regular.{Regular}
 
@@ -39,7 +41,14 @@ abbrev pub IsWalkOf : Bool → Regular → List ℕ → RunInput → ℕ → ℕ
 IsWalkOf longest regular text input start end count slots = (pattern : Pattern) → IsRegularOf regular pattern
     → IsToldBy longest regular text input start end count slots pattern
 
--- a walk may begin at this start in a search with this input: the memory serves that, and may be asked there
+-- the states have a way from this start in a search with this input
+abbrev pub HasWayFrom : Regular → List ℕ → RunInput → ℕ → Type 0
+HasWayFrom regular text input start = (view : View) (ways : Ways)
+    → Explains regular.matchers.items (rules_at regular.unicode input (continue_place regular input)) (ends_from 0 input.range.end) regular.table.states.items text view ways
+    → ways.end regular.entry start ≡ None → ⊥
+
+-- a walk may begin at this start in a search with this input: the memory serves that, and may be asked there, and there is a way
 pub record CanWalk (regular : Regular) (text : List ℕ) (input : RunInput) (memory : RegularMemory) (start : ℕ) : Type 0 where
   pub serves : MemoryServes memory.kept input (continue_place regular input) (lowest_asked regular input)
   pub place : IsInReach regular.table text memory.parts.recall.base regular.entry start
+  pub way : HasWayFrom regular text input start

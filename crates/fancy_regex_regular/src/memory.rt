@@ -14,9 +14,9 @@ pub struct RegularMemory {
     pub(crate) parts: PartMemory,
     /// What questions for a longer match have found out.
     pub(crate) farther: PartMemory,
-    /// Where the walk along a match has been, and what it has yet to do.
+    /// What walks along first matches have found out, or the last one along a longest match, and what it has yet to do.
     pub(crate) walked: WalkMemory,
-    /// What the parts' memory is of; `None` where no later search may use it.
+    /// What the memory of the parts and of the walks is of; `None` where no later search may use it.
     pub(crate) kept: Option<Kept>,
 }
 

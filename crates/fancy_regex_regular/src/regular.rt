@@ -32,8 +32,6 @@ pub struct Regular {
     unicode: bool,
     /// Whether the longest match is wanted, not the first.
     pub(crate) longest: bool,
-    /// Whether a part that has to have a way may write a group, so that a walk may go further than the match does.
-    asks_for_groups: bool,
     /// Whether a state is `\G`, so that what searches find out depends on where it holds.
     continues: bool,
     /// Whether a match may begin elsewhere than the attempt that finds it, since `\K` stands in the pattern.
@@ -54,7 +52,6 @@ impl Drop for Regular {
             whole: _whole,
             unicode: _unicode,
             longest: _longest,
-            asks_for_groups: _asks_for_groups,
             continues: _continues,
             resets_start: _resets_start,
         } = self;
@@ -125,7 +122,6 @@ impl Regular {
         let built = PartTable::new(alloc, states)?;
         match built {
             Some(table) => Ok(Some(Regular {
-                asks_for_groups: table.asks_for_slots(),
                 continues,
                 table,
                 entry,
@@ -138,12 +134,6 @@ impl Regular {
             })),
             None => Ok(None),
         }
-    }
-
-    /// Whether a look-ahead may write groups. Where none does, a search for groups takes no longer than one for the match and a walk along
-    /// it. No clause says so.
-    pub fn asks_for_groups(&self) -> bool {
-        self.asks_for_groups
     }
 
     /// Whether a match may begin elsewhere than the attempt that finds it, since `\K` stands in the pattern: then a search for its span
@@ -390,6 +380,7 @@ impl Regular {
             return;
         }
         memory.parts.restart(context, lowest);
+        memory.walked.restart(context, lowest);
         memory.kept = Some(Kept::of(input, continue_at, lowest));
     }
 

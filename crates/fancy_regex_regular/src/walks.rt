@@ -60,6 +60,7 @@ fn walk_first(
     requires range { input.now.range.end ≤ length text.now }
     requires kept { IsKeptOf regular.now text.now memory.old }
     requires walks { CanWalk regular.now text.now input.now memory.old start }
+    requires plain { regular.now.longest ≡ false }
     ensures told { OnOk result ((end : ℕ) → IsAttemptOf false regular.now text.now input.now (Some (start, end))
         → IsWalkOf false regular.now text.now input.now start end (length slots.old) slots.new) }
     ensures at_most { OnOk result ((before : ℕ) → LooksFrom regular.now text.now memory.old.parts.recall.base before steps.old
@@ -100,6 +101,7 @@ fn walk_longest(
     requires kept { IsKeptOf regular.now text.now memory.old }
     requires walks { CanWalk regular.now text.now input.now memory.old start }
     requires attempt { IsAttemptOf true regular.now text.now input.now (Some (start, end)) }
+    requires plain { regular.now.longest ≡ true }
     ensures told { OnOk result (IsWalkOf true regular.now text.now input.now start end (length slots.old) slots.new) }
     ensures base { memory.new.parts.recall.base ≡ memory.old.parts.recall.base }
     ensures kept { IsKeptOf regular.now text.now memory.new }
@@ -111,6 +113,7 @@ fn walk_longest(
     let context = regular.context(input, end);
     let lowest = regular.table.lowest(regular.entry, start);
     memory.farther.restart(&context, lowest);
+    memory.walked.restart(&context, lowest);
     let mut looked = Counted::new(text, steps);
     walk(
         &context,

@@ -27,5 +27,5 @@ returns-clause-told c pattern is =
     let answer : (a.go regular.entry start).answer ≡ Some l.trace = a.means start place.boundary.0 ∙ l.answer_is in
     let by = trace_by c.context-context.result text a.view a.go tried regular.entry start (rw context.table_is regular.inside) place.boundary.0 l.trace answer in
     let written = (rw c.new-looked.ensures.text at c.in_ok-walk.ensures.written) a.view a.go tried (c.restart.ensures.remembers (ways_of a.go))
-    l.trace (subst (λ (q : ℕ). (a.go q start).answer ≡ Some l.trace) (sym context.entry_is) answer) in
+    (c.restart-2.ensures.known a.go) l.trace (subst (λ (q : ℕ). (a.go q start).answer ≡ Some l.trace) (sym context.entry_is) answer) in
     l.told by (length c.args.slots.now) c.walk.new.slots written

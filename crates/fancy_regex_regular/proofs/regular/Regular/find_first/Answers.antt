@@ -12,7 +12,8 @@ use Rattle.fancy_regex_regular.specs.Iterations.{IsPaidWithin, paid_before, paid
 use Rattle.fancy_regex_regular.specs.Kept.{IsReady, IsTrueFor}
 use Rattle.fancy_regex_regular.specs.Starts.{last_start}
 use Rattle.fancy_regex_regular.proofs.ContinueLemmas.{place_for}
-use Rattle.fancy_regex_regular.proofs.KeptLemmas.{can_ask, can_walk, kept_after}
+use Rattle.fancy_regex_regular.proofs.KeptLemmas.{can_ask, can_walk, kept_after, way_found}
+use Rattle.fancy_regex_regular.proofs.RegularGroupLemmas.{ways_in}
 use Rattle.fancy_regex_regular.proofs.RegularSpanLemmas.{is_searched, none_past}
 use Rattle.fancy_regex_regular.proofs.RegularWeightLemmas.{looks_most}
 use Rattle.fancy_regex_regular.proofs.PaidLemmas.{looks_on, paid_of}
@@ -41,11 +42,13 @@ kept c is_ready =
 
 pub returns-in_err-span-clause-kept : goal.returns-in_err-span-clause-kept
 returns-in_err-span-clause-kept c =
-    kept (goal.at.returns-in_err-span-clause-kept c).After-find (ready (goal.at.returns-in_err-span-clause-kept c).After-begin)
+    let is_ready = ready (goal.at.returns-in_err-span-clause-kept c).After-begin in
+    (kept (goal.at.returns-in_err-span-clause-kept c).After-find is_ready, is_ready.walked)
 
 pub returns-clause-kept : goal.returns-clause-kept
 returns-clause-kept c =
-    kept (goal.at.returns-clause-kept c).After-find (ready (goal.at.returns-clause-kept c).After-begin)
+    let is_ready = ready (goal.at.returns-clause-kept c).After-begin in
+    (kept (goal.at.returns-clause-kept c).After-find is_ready, is_ready.walked)
 
 pub returns-then-input-clause-answer : goal.returns-then-input-clause-answer
 returns-then-input-clause-answer c pattern is =
@@ -119,5 +122,14 @@ returns-clause-paid c low = paid (goal.at.returns-clause-paid c).After-find (rea
 
 pub returns-clause-walks : goal.returns-clause-walks
 returns-clause-walks c =
-    can_walk c.args.self.now c.args.text.now c.args.input.now _ c.in_ok-span.span c.begin.ensures.serves
-    (rw (c.context-context.ensures.table_is, c.context-context.ensures.entry_is, c.new-counted.ensures.text, sym c.find.ensures.leaves.base) at c.in_ok-span.ensures.place)
+    let self = c.args.self.now in
+    let text = c.args.text.now in
+    let input = c.args.input.now in
+    let context = c.context-context.ensures in
+    can_walk self text input _ c.in_ok-span.span c.begin.ensures.serves
+    (rw (context.table_is, context.entry_is, c.new-counted.ensures.text, sym c.find.ensures.leaves.base) at c.in_ok-span.ensures.place)
+    (way_found self text input (boundaries text input.first c.last_start.result) c.in_ok-span.span
+    (λ view ways explains.
+    let has : HasWays c.context-context.result text view ways = ways_in c.context-context.result self input 0 context text view ways explains in
+    (rw (c.new-counted.ensures.text, context.entry_is) at c.in_ok-span.ensures.found) view ways has
+    ((ready (goal.at.returns-clause-walks c).After-begin).remembers view ways has)))

@@ -24,13 +24,13 @@ returns-in_default-clause-answer c pattern is =
 pub returns-in_err-walk_along-clause-paid : goal.returns-in_err-walk_along-clause-paid
 returns-in_err-walk_along-clause-paid c low =
     let walks = c.walk_along.ensures.walks in
-    paid_of c.args.self.now c.args.text.now c.args.input.now c.walk_along.new.memory.parts c.walk_along.new.memory.kept walks.serves c.walk_along.ensures.kept
+    paid_of c.args.self.now c.args.text.now c.args.input.now c.walk_along.new.memory.parts c.walk_along.new.memory.kept walks.serves c.walk_along.ensures.kept.0
     (omega (arith, walks.place.low, walks.place.boundary.0))
 
 pub returns-clause-paid : goal.returns-clause-paid
 returns-clause-paid c low =
     let walks = c.walk_along.ensures.walks in
-    paid_of c.args.self.now c.args.text.now c.args.input.now c.walk_along.new.memory.parts c.walk_along.new.memory.kept walks.serves c.walk_along.ensures.kept
+    paid_of c.args.self.now c.args.text.now c.args.input.now c.walk_along.new.memory.parts c.walk_along.new.memory.kept walks.serves c.walk_along.ensures.kept.0
     (omega (arith, walks.place.low, walks.place.boundary.0))
 
 pub returns-clause-walked : goal.returns-clause-walked
