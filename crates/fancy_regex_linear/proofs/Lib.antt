@@ -53,3 +53,4 @@ pub mod SettleLemmas
 pub mod VerdictLemmas
 pub mod AloneLemmas
 pub mod SpanLemmas
+pub mod QuickLemmas

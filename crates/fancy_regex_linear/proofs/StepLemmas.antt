@@ -26,12 +26,12 @@ next_if X true x h k = h refl
 next_if X false x h k = k refl
 
 -- a test that fails fails in one of its parts
-and_none : (a b c : Bool) → (a && c) ≡ false → (a ≡ true → c ≡ false → b ≡ false) → (a && b) ≡ false
+pub and_none : (a b c : Bool) → (a && c) ≡ false → (a ≡ true → c ≡ false → b ≡ false) → (a && b) ≡ false
 and_none true b c e h = h refl e
 and_none false b c e h = refl
 
 -- a character that is too wide ends past the stop
-past_stop : (width at stop next : ℕ) → at ≤ stop → next ≡ at + width → nat_le width (stop - at) ≡ false → stop < next
+pub past_stop : (width at stop next : ℕ) → at ≤ stop → next ≡ at + width → nat_le width (stop - at) ≡ false → stop < next
 past_stop width at stop next p e far =
     elim (cases_lt (stop - at) width) [
       | inl wide ↦ omega arith

@@ -27,3 +27,5 @@ pub mod Alone
 pub mod RegularStates
 pub mod Passing
 pub mod Before
+pub mod Quick
+pub mod QuickSpans

@@ -1,6 +1,6 @@
 //! Compiled easy patterns, and their searches.
 
-ghost use Rattle.std.specs.Prelude.{◌≡◌, ℕ, List, Bool, false, IfErr, ◌≤◌, length, IfOk, option_map, IsCharBoundary, slice_set, IfSome};
+ghost use Rattle.std.specs.Prelude.{◌≡◌, ◌+◌, ℕ, List, Bool, true, false, IfErr, ◌≤◌, length, IfOk, option_map, IsCharBoundary, slice_set, IfSome};
 ghost use Rattle.fancy_regex_linear.specs.Easy.{IsMade, rules_for, found_slots, found_at};
 ghost use Rattle.fancy_regex_linear.specs.Find.{found_of_span};
 ghost use Rattle.fancy_regex_tree.specs.Tree.{Tree};
@@ -21,6 +21,7 @@ use crate::first::{Request, from_alone, with_memory};
 use crate::memory::SearchMemory;
 use crate::needed::by_needed_alone;
 use crate::passing::{By, Passing};
+use crate::quick::{Quick, quick_end};
 use crate::search::{SearchContext, SearchMode};
 use crate::starts::refused_ascii;
 use crate::state::add;
@@ -92,6 +93,7 @@ impl Drop for Easy {
 impl Easy {
     ghost use Rattle.fancy_regex_linear.specs.EasyPatterns.{IsEasyOf, IsMatchSlots, IsMatchSpan, LooksAtMost, LooksAtLeast};
     ghost use Rattle.fancy_regex_linear.specs.EasyTables.{IsContextOf, IsTableFor};
+    ghost use Rattle.fancy_regex_linear.specs.QuickSpans.{IsQuickSpan};
     ghost use Rattle.fancy_regex_linear.specs.Verdicts.{IsMatchFlag, IsVerdictFor, GoesOnIn};
     ghost use Rattle.fancy_regex_meaning.specs.Groups.{Pattern};
     ghost use Rattle.fancy_regex_linear.specs.Plain.{IsPlain};
@@ -343,6 +345,28 @@ impl Easy {
         }
         let attempt = self.span_with_memory(text, input, steps, memory, true)?;
         Ok(attempt)
+    }
+
+    /// Where the match ends that an anchored search finds, if it takes visits of `most` states at most. It takes no memory. Where it gives
+    /// up, that tells nothing; no clause says when it does.
+    // Not inlined: so the caller keeps little around the call, and the search keeps what it reads in registers.
+    #[inline(never)]
+    pub fn quick_end(&self, text: &str, input: &RunInput, most: usize, steps: &mut Steps) -> Quick
+        requires first { IsCharBoundary text.now input.now.first }
+        requires range { input.now.range.end ≤ length text.now }
+        requires anchored { input.now.anchored ≡ true }
+        ensures answer { IsQuickSpan self.now text.now input.now result }
+        ensures at_most { steps.new ≤ steps.old + most }
+        ensures counts { steps.old ≤ steps.new }
+    {
+        // Read so that the proof knows that the counter is a `u64`, which no look lowers.
+        let _before = steps.count();
+        if self.longest || input.first > input.range.end {
+            return Quick::GivenUp;
+        }
+        let context = self.context(input);
+        let mut counted = Counted::new(text, steps);
+        quick_end(&context, &mut counted, self.entry, input.first, most)
     }
 
     /// Searches for the span as `find_span_in` does, by the characters before starts as far as the table tells. The error is want of

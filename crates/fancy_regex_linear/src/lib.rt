@@ -24,7 +24,9 @@ mod frame;
 mod memory;
 mod needed;
 mod node;
+mod open_pairs;
 mod passing;
+mod quick;
 mod regular;
 mod search;
 mod settle;
@@ -36,4 +38,5 @@ mod visited;
 
 pub use easy::Easy;
 pub use memory::SearchMemory;
+pub use quick::Quick;
 pub use regular::RegularStates;

@@ -1,9 +1,8 @@
 -- What the search of a delegated part finds.
-use Rattle.std.proofs.Common.{◌≡◌, ℕ, ◌<◌, ◌≤◌, Bool, true, false, cond, List, [], ◌∷◌, length, map, Option, Some, None, Vec, Global, refl, sym, ap, ap₂, subst, ◌∙◌, arith}
-use Rattle.std.specs.Prelude.{◌&&◌, nat_le, nat_lt, option_map, slice_get}
+use Rattle.std.proofs.Common.{◌≡◌, ℕ, ◌<◌, ◌≤◌, Bool, true, false, cond, List, [], ◌∷◌, length, map, Option, Some, None, refl, sym, ap, ap₂, subst, ◌∙◌, arith}
+use Rattle.std.specs.Prelude.{◌&&◌, nat_le, nat_lt, option_map}
 use Rattle.std.specs.List.{filter}
 use Rattle.std.proofs.lemmas.Bool.Decides.{nat_tests}
-use Rattle.std.proofs.lemmas.Option.{none-some, same_Some}
 use Rattle.fancy_regex_tree.specs.Tree.{Tree}
 use Rattle.fancy_regex_meaning.specs.Groups.{pattern_of}
 use Rattle.fancy_regex_meaning.specs.Positions.{boundaries}
@@ -11,8 +10,9 @@ use Rattle.fancy_regex_meaning.specs.Ways.{MatchState, Setting, with_position}
 use Rattle.fancy_regex_meaning.specs.WayLaws.{Each}
 use Rattle.fancy_regex_meaning.specs.Searches.{Match, Search, first_item, first_some, is_admitted, match_of, start_way, match_at, first_match, ways_at}
 use Rattle.fancy_regex_meaning.proofs.ForwardProofs.{ways_go_onward}
-use Rattle.fancy_regex_class.specs.RunInputs.{search_for, match_slots}
+use Rattle.fancy_regex_class.specs.RunInputs.{search_for}
 use Rattle.fancy_regex_class.specs.declared.input.RunInput.{RunInput}
+use Rattle.fancy_regex_linear.specs.EasyPatterns.{span_of_match}
 use Rattle.fancy_regex_desugar.specs.Delegates.{is_searchable, first_end, ends_until, first_end_until}
 use Rattle.fancy_regex_desugar.proofs.DelegateProofs.{tree_ends, own_ways}
 
@@ -23,21 +23,15 @@ only_some {A} f p = at (f p)
     at None = refl
     at (Some y) = refl
 
--- what the slots of an answer say of its end
+-- where the span of a match of the tree ends
 module _ (t : Tree) (p : ℕ) where
   abbrev alone : MatchState
   alone = start_way (pattern_of t) p
 
-  slots_end : (q : ℕ) → slice_get (match_slots (pattern_of t) (match_of (with_position alone q))) 1 ≡ Some q
-  slots_end q = refl
-
-  end_found : (found : Option (Vec ℕ Global)) (ps : List ℕ) →
-      option_map (λ (v : Vec ℕ Global). v.items) found ≡ option_map (match_slots (pattern_of t)) (option_map match_of (first_item (map (with_position alone) ps))) →
-      (elim found as (λ _. Option ℕ) [ None ↦ None | Some v ↦ slice_get v.items 1 ]) ≡ option_map (λ w. w.position) (first_item (map (with_position alone) ps))
-  end_found None [] e = refl
-  end_found None (q ∷ qs) e = absurd (none-some _ e)
-  end_found (Some v) [] e = absurd (none-some _ (sym e))
-  end_found (Some v) (q ∷ qs) e = ap (λ l. slice_get l 1) (same_Some _ _ e) ∙ slots_end q
+  span_end : (ps : List ℕ) → option_map (λ (ends : ℕ × ℕ). ends.1) (option_map span_of_match (option_map match_of (first_item (map (with_position alone) ps))))
+      ≡ option_map (λ w. w.position) (first_item (map (with_position alone) ps))
+  span_end [] = refl
+  span_end (q ∷ qs) = refl
 
 and_true : (b : Bool) → (b && true) ≡ b
 and_true true = refl
@@ -103,22 +97,22 @@ module _ (s : Setting) (t : Tree) (d : is_searchable t ≡ true) (input : RunInp
           ap (λ b. first_some f (cond b (input.first ∷ []) (boundaries s.text sought.first sought.stop))) anchored
           ∙ only_some f input.first ∙ matched_near
 
-  slot_until : (found : Option (Vec ℕ Global)) →
-      option_map (λ (v : Vec ℕ Global). v.items) found ≡ option_map (match_slots (pattern_of t)) (first_match s (pattern_of t) sought) →
-      (elim found as (λ _. Option ℕ) [ None ↦ None | Some v ↦ slice_get v.items 1 ]) ≡ first_end_until s t stop input.first
+  span_until : (found : Option (ℕ × ℕ)) → found ≡ option_map span_of_match (first_match s (pattern_of t) sought)
+      → option_map (λ (ends : ℕ × ℕ). ends.1) found ≡ first_end_until s t stop input.first
   unfolding first_end_until
-  slot_until found e =
-      end_found t input.first found (near all_ends) (e ∙ ap (option_map (match_slots (pattern_of t))) found_near)
+  span_until found e =
+      ap (option_map (λ (ends : ℕ × ℕ). ends.1)) (e ∙ ap (option_map span_of_match) found_near)
+      ∙ span_end t input.first (near all_ends)
       ∙ ap (λ ws. option_map (λ w. w.position) (first_item ws)) (sym (ap (filter (ends_until stop)) (own_ways s t d input.first) ∙ ends_near all_ends))
 
--- the second slot of the answer of an anchored search for the first match that ends in range
-pub end_of_search_until : (s : Setting) (t : Tree) → is_searchable t ≡ true → (input : RunInput) → input.anchored ≡ true →
-    input.first ≤ length s.text → (longest : Bool) → longest ≡ false → (found : Option (Vec ℕ Global)) →
-    option_map (λ (v : Vec ℕ Global). v.items) found ≡ option_map (match_slots (pattern_of t)) (first_match s (pattern_of t) (search_for longest input)) →
-    (elim found as (λ _. Option ℕ) [ None ↦ None | Some v ↦ slice_get v.items 1 ]) ≡ first_end_until s t input.range.end input.first
-end_of_search_until s t d input anchored inside longest first found e =
-    slot_until s t d input anchored inside found
-    (e ∙ ap (λ b. option_map (match_slots (pattern_of t)) (first_match s (pattern_of t) (search_for b input))) first)
+-- where the span ends that an anchored search for the first match answers
+pub end_of_span_until : (s : Setting) (t : Tree) → is_searchable t ≡ true → (input : RunInput) → input.anchored ≡ true →
+    input.first ≤ length s.text → (longest : Bool) → longest ≡ false → (found : Option (ℕ × ℕ)) →
+    found ≡ option_map span_of_match (first_match s (pattern_of t) (search_for longest input)) →
+    option_map (λ (ends : ℕ × ℕ). ends.1) found ≡ first_end_until s t input.range.end input.first
+end_of_span_until s t d input anchored inside longest first found e =
+    span_until s t d input anchored inside found
+    (e ∙ ap (λ b. option_map span_of_match (first_match s (pattern_of t) (search_for b input))) first)
 
 within : (a b : ℕ) → a ≤ b → nat_le a b ≡ true
 within a b le = grind (arith, nat_tests)

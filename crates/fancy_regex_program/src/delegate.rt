@@ -1,6 +1,6 @@
 //! Parts of a pattern that the linear engine searches, in place of instructions of their own.
 
-ghost use Rattle.std.specs.Prelude.{◌≡◌, ◌≤◌, ◌+◌, true, false, length, Some, None, slice_get, chars, string_bytes, IfOk, IsTrue, IsCharBoundary};
+ghost use Rattle.std.specs.Prelude.{◌≡◌, ◌≤◌, ◌+◌, true, false, length, Some, None, option_map, chars, string_bytes, IfOk, IsTrue, IsCharBoundary};
 ghost use Rattle.std.specs.Option.{ForSome};
 ghost use Rattle.fancy_regex_tree.specs.Printed.{printed};
 ghost use Rattle.fancy_regex_tree.specs.Tree.{tree_of};
@@ -15,16 +15,18 @@ ghost use Rattle.fancy_regex_program.specs.BodyStarts.{body_starts_in, body_refu
 use crate::range::CaptureGroupRange;
 use fancy_regex_bytes::ByteSet;
 use fancy_regex_class::{RunInput, Steps};
-use fancy_regex_linear::{Easy, SearchMemory};
+use fancy_regex_linear::{Easy, Quick, SearchMemory};
 use fancy_regex_tree::Expr;
-use std::alloc::{AllocError, Global};
+use std::alloc::AllocError;
 use std::fmt;
+
+/// How many states a quick search visits before the search with memory begins.
+const QUICK_VISITS: usize = 32;
 
 /// A part of a pattern of which only the first match matters, or only whether there is one, with the states that it is searched with.
 /// The linear engine searches it. No clause of this type says in how many looks.
 #[derive(Drop)]
 pub struct Delegate {
-    pub(crate) alloc: Global,
     pub(crate) part: Expr,
     pub(crate) for_any: bool,
     pub(crate) pattern: String,
@@ -117,15 +119,29 @@ impl Delegate {
         ensures { IfOk result (λ found. found ≡ first_end_until (setting_for self.now.easy.unicode text.now input.now)
             (searched self.now.for_any (tree_of self.now.part)) input.now.range.end input.now.first) }
     {
-        let found = self.easy.search_in(self.alloc, text, input, steps, memory)?;
-        match found {
-            Some(places) => {
-                let end = place_at(&places, 1);
-                memory.give_back(places);
-                Ok(end)
-            }
-            None => Ok(None),
+        match self.easy.quick_end(text, input, QUICK_VISITS, steps) {
+            Quick::Ends(end) => Ok(Some(end)),
+            Quick::Fails => Ok(None),
+            Quick::GivenUp => self.end_with_memory(text, input, steps, memory),
         }
+    }
+
+    /// The same as `end_until`, by the search with memory.
+    fn end_with_memory(
+        &self,
+        text: &str,
+        input: &RunInput,
+        steps: &mut Steps,
+        memory: &mut SearchMemory,
+    ) -> Result<Option<usize>, AllocError>
+        requires first { IsCharBoundary text.now input.now.first }
+        requires range { input.now.range.end ≤ length text.now }
+        requires anchored { input.now.anchored ≡ true }
+        ensures { IfOk result (λ found. found ≡ first_end_until (setting_for self.now.easy.unicode text.now input.now)
+            (searched self.now.for_any (tree_of self.now.part)) input.now.range.end input.now.first) }
+    {
+        let span = self.easy.find_span_in(text, input, steps, memory)?;
+        Ok(end_of(span))
     }
 }
 
@@ -137,12 +153,12 @@ impl fmt::Debug for Delegate {
     }
 }
 
-/// The byte offset at this index, if there is one.
-fn place_at(places: &[usize], index: usize) -> Option<usize>
-    ensures { result ≡ slice_get places.now index }
+/// Where a span ends, if there is one.
+fn end_of(span: Option<(usize, usize)>) -> Option<usize>
+    ensures { result ≡ option_map (λ ends. ends.1) span }
 {
-    match places.get(index) {
-        Some(place) => Some(*place),
+    match span {
+        Some((_, end)) => Some(end),
         None => None,
     }
 }

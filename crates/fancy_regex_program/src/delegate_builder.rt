@@ -44,7 +44,6 @@ impl Delegate {
         part.to_str(&mut pattern, 0)?;
         let part = part.try_clone(alloc)?;
         Ok(Delegate {
-            alloc,
             part,
             for_any,
             pattern,

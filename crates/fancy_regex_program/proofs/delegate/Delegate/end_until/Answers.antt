@@ -1,5 +1,4 @@
-use Rattle.std.proofs.Common.{ℕ, Some, None, Vec, Global, sym, ap, ◌∙◌, slice_get}
-use Rattle.std.specs.Prelude.{option_map}
+use Rattle.std.proofs.Common.{Some, None}
 use base.Stored.{Coded-set}
 use Rattle.std.specs.Coded.{coded_option, coded_ℕ}
 use mathlib.Core.Logic.{∥∥₁_elim}
@@ -8,24 +7,23 @@ use Rattle.fancy_regex_meaning.specs.Groups.{pattern_of}
 use Rattle.fancy_regex_class.specs.RunInputs.{setting_for}
 use Rattle.fancy_regex_desugar.specs.Delegates.{searched}
 use Rattle.fancy_regex_desugar.proofs.DelegateProofs.{searched_can_be}
-use Rattle.fancy_regex_program.proofs.DelegateLemmas.{end_of_search_until}
+use Rattle.fancy_regex_program.proofs.DelegateLemmas.{end_of_span_until}
 use Rattle.fancy_regex_program.proofs.delegate.Delegate.end_until.Goals as goal
 
-pub returns-in-Some : goal.returns-in-Some
-returns-in-Some c =
+pub returns-in-Ends : goal.returns-in-Ends
+returns-in-Ends c =
     let self = c.args.self.now in
     let t = searched self.for_any (tree_of self.part) in
     let s = setting_for self.easy.unicode c.args.text.now c.args.input.now in
     ∥∥₁_elim self.serves (Coded-set (coded_option coded_ℕ) _ _) (λ serves.
-    c.place_at-end.ensures ∙ ap (λ l. slice_get l 1) c.deref.ensures.value
-    ∙ end_of_search_until s t (searched_can_be self.for_any (tree_of self.part) self.delegated) c.args.input.now c.requires.anchored c.requires.first.0 self.easy.longest self.first (Some c.in-Some.places)
-    (ap (option_map (λ (v : Vec ℕ Global). v.items)) (sym c.in-Some.is) ∙ c.in_ok-found.ensures.answer (pattern_of t) serves))
+    end_of_span_until s t (searched_can_be self.for_any (tree_of self.part) self.delegated) c.args.input.now c.requires.anchored c.requires.first.0 self.easy.longest self.first (Some (c.args.input.now.first, c.in-Ends.end))
+    (c.in-Ends.ensures.answer (pattern_of t) serves))
 
-pub returns-in-None : goal.returns-in-None
-returns-in-None c =
+pub returns-in-Fails : goal.returns-in-Fails
+returns-in-Fails c =
     let self = c.args.self.now in
     let t = searched self.for_any (tree_of self.part) in
     let s = setting_for self.easy.unicode c.args.text.now c.args.input.now in
     ∥∥₁_elim self.serves (Coded-set (coded_option coded_ℕ) _ _) (λ serves.
-    end_of_search_until s t (searched_can_be self.for_any (tree_of self.part) self.delegated) c.args.input.now c.requires.anchored c.requires.first.0 self.easy.longest self.first None
-    (ap (option_map (λ (v : Vec ℕ Global). v.items)) (sym c.in-None.is) ∙ c.in_ok-found.ensures.answer (pattern_of t) serves))
+    end_of_span_until s t (searched_can_be self.for_any (tree_of self.part) self.delegated) c.args.input.now c.requires.anchored c.requires.first.0 self.easy.longest self.first None
+    (c.in-Fails.ensures.answer (pattern_of t) serves))
