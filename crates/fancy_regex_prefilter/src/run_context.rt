@@ -1,9 +1,9 @@
 //! What a run reads.
 
-use crate::look_behind_starts::LeadingLookBehind;
 use fancy_regex_class::RunInput;
 use fancy_regex_plan::Plan;
 use fancy_regex_program::Insn;
+use fancy_regex_shapes::shapes::Shapes;
 
 /// What a run reads: the program, the text, where a match may start and end, and which matches are admitted. Offsets are byte
 /// offsets. It does not change while the run lasts.
@@ -15,10 +15,8 @@ pub struct RunContext<'r> {
     pub ascii_starts: &'r [bool; 128],
     /// What is known of the program, by the characters around a place.
     pub plan: &'r Plan,
-    /// How the program begins, if that is with a negative look-behind of one character.
-    pub look_behind: Option<LeadingLookBehind<'r>>,
-    /// Whether a walk from a start may tell more than the characters around it.
-    pub walks: bool,
+    /// What the program is.
+    pub shapes: &'r Shapes,
     /// The first start from which it pays to walk.
     pub walks_from: usize,
     /// The whole text.
